@@ -1,0 +1,75 @@
+# make help lists the targets.
+
+PREFIX = /usr/local
+DESTDIR =
+VERSION = 0.1.0
+
+CC = cc
+CXX = g++
+CFLAGS = -O2
+STRICT = -Wall -Wextra -pedantic -Werror
+RT = rt
+ORACLE = cargo run --release --quiet --offline --manifest-path oracle/Cargo.toml --
+
+LIBRARY = target/staticlib/librikkovan.a
+SOURCES = crates.txt $(shell find crates -name '*.rt' -o -name '*.antt')
+PLANS = $(sort $(wildcard examples/plans/*.plan))
+
+.DELETE_ON_ERROR:
+.PHONY: help lib run test test-c compare compare-quick record bench plans install clean
+
+help:
+	@echo 'make run            prove the library, then check the example plans through it'
+	@echo 'make test           the whole test, with every proof'
+	@echo 'make lib            prove the library and write $(LIBRARY)'
+	@echo 'make install        install it, with its header (PREFIX=$(PREFIX), DESTDIR)'
+	@echo 'make test-c         test the library from C and C++'
+	@echo 'make compare        compare the library with the Rust (compare-quick: a part of it)'
+	@echo 'make record         write crates/replay/data anew from the Rust'
+	@echo 'make bench          measure the library and the Rust'
+	@echo 'make plans          write examples/plans anew'
+	@echo 'make clean          remove what was built'
+
+lib: $(LIBRARY)
+
+$(LIBRARY): $(SOURCES)
+	$(RT) staticlib rikkovan
+
+build/daemon: examples/daemon.c include/rikkovan.h $(LIBRARY)
+	@mkdir -p build
+	$(CC) -std=c99 $(STRICT) $(CFLAGS) -Iinclude -o $@ examples/daemon.c $(LIBRARY)
+
+# Some of the plans are refused on purpose, and the daemon's status is then 1.
+run: build/daemon
+	@build/daemon $(PLANS) || test $$? -eq 1
+
+test:
+	@tools/test.sh
+
+test-c: build/daemon
+	@CC='$(CC)' CXX='$(CXX)' tests/c/run.sh
+
+compare: $(LIBRARY)
+	$(ORACLE) compare
+
+compare-quick: $(LIBRARY)
+	$(ORACLE) compare --quick
+
+record: $(LIBRARY)
+	$(ORACLE) record crates/replay/data
+
+bench: $(LIBRARY)
+	$(ORACLE) bench
+
+plans:
+	tools/make-plans.sh
+
+install: $(LIBRARY)
+	install -d '$(DESTDIR)$(PREFIX)/include' '$(DESTDIR)$(PREFIX)/lib/pkgconfig'
+	install -m 644 include/rikkovan.h '$(DESTDIR)$(PREFIX)/include'
+	install -m 644 $(LIBRARY) '$(DESTDIR)$(PREFIX)/lib'
+	sed -e 's|@PREFIX@|$(PREFIX)|' -e 's|@VERSION@|$(VERSION)|' tools/rikkovan.pc.in \
+		>'$(DESTDIR)$(PREFIX)/lib/pkgconfig/rikkovan.pc'
+
+clean:
+	rm -rf build target oracle/target

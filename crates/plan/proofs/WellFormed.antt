@@ -1,0 +1,36 @@
+-- What a decoded plan has. Assumes nothing.
+use Prim.Native.Nat.{ℕ, _≤_}
+use mathlib.Core.Path.{_≡_, refl}
+use mathlib.Core.Bool.{Bool, true, false}
+use mathlib.Core.List.{List}
+use borrow.Author.Tests.{not-false, eqb-true}
+use lib.Dec.{eqb}
+use lib.ListN.{length, getD, drop}
+use Rattle.record.specs.Bytes.{twoBytes}
+use Rattle.record.proofs.Refusals.{none-at, not-refused}
+use Rattle.record.proofs.Bytes.{within-at}
+use Rattle.plan.specs.declared.Plan.{Plan}
+use Rattle.plan.specs.Plan.{largest, stageOf, encoded, legal, coded, recordTests, recordRefusal}
+
+-- what refusals 1 to 3 leave of the bytes of a record
+pub record WellFormed (b : List ℕ) : Type 0 where
+  pub bytes : length b ≡ 20
+  pub length-field : twoBytes (getD b 0 0) (getD b 1 0) ≡ 18
+  pub version : getD b 2 0 ≡ 1
+  pub codes : coded b ≡ true
+
+pub well-formed : (b : List ℕ) → recordRefusal b ≡ 0 → WellFormed b
+unfolding recordRefusal
+well-formed b e =
+    let at = none-at (recordTests b) e in
+    record {
+      bytes = eqb-true _ _ (not-false (eqb (length b) 20) (not-refused 0 _ (at 0)));
+      length-field = eqb-true _ _ (not-false (eqb (twoBytes (getD b 0 0) (getD b 1 0)) 18) (not-refused 0 _ (at 1)));
+      version = eqb-true _ _ (not-false (eqb (getD b 2 0) 1) (not-refused 1 _ (at 2)));
+      codes = not-false (coded b) (not-refused 2 _ (at 3));
+    }
+
+-- the stages of a legal plan are 0 to 15
+pub legal-stages : (p : Plan) → legal p ≡ true → (stageOf (p .dll1) ≤ 15) × (stageOf (p .dll2) ≤ 15)
+unfolding legal encoded
+legal-stages p e = (within-at (drop 3 (encoded p)) largest e 5, within-at (drop 3 (encoded p)) largest e 8)

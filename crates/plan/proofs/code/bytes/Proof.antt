@@ -1,0 +1,47 @@
+-- `plan::code::bytes` meets its contract: each element is what `encoded` has at its place. Assumes nothing.
+use Rattle.plan.specs.Plan.{encoded}
+use borrow.Author.Needs.{needs}
+use Rattle.plan.proofs.code.bytes.Statement.{statement}
+use Rattle.plan.proofs.code.bytes.Tie as tie
+
+present-requires : tie.Need-present-requires
+present-requires c κs = search needs
+
+stage-requires : tie.Need-stage-requires
+stage-requires c κs = search needs
+
+half-requires : tie.Need-half-requires
+half-requires c κs = search needs
+
+present-requires-2 : tie.Need-present-requires-2
+present-requires-2 c κs = search needs
+
+stage-requires-2 : tie.Need-stage-requires-2
+stage-requires-2 c κs = search needs
+
+half-requires-2 : tie.Need-half-requires-2
+half-requires-2 c κs = search needs
+
+flag-requires : tie.Need-flag-requires
+flag-requires c κs = search needs
+
+flag-requires-2 : tie.Need-flag-requires-2
+flag-requires-2 c κs = search needs
+
+returns : tie.Need-returns
+unfolding encoded
+returns c = cc
+
+pub bytes-spec : {M : Type 1} → statement M
+bytes-spec =
+    tie.close
+    (tie.spec
+    present-requires
+    stage-requires
+    half-requires
+    present-requires-2
+    stage-requires-2
+    half-requires-2
+    flag-requires
+    flag-requires-2
+    returns)

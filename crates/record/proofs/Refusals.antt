@@ -1,0 +1,31 @@
+-- Laws of `firstOf`. Assumes nothing.
+use Prim.Native.Nat.{ℕ, zero, suc}
+use mathlib.Core.Path.{_≡_, refl}
+use mathlib.Core.Bool.{Bool, true, false, cond}
+use mathlib.Core.List.{List, [], _∷_}
+use native.Mathlib.Omega.{arith}
+use lib.Dec.{eqb}
+use lib.ListN.{getD}
+use borrow.Author.Tests.{eqb-true, eqb-false}
+use Rattle.record.specs.Refusals.{refuse, firstOf}
+
+-- where nothing is refused, the first test found no fault, and nothing of the rest is refused
+none-first : (n m : ℕ) (t : Bool) → eqb n 0 ≡ t → cond t m n ≡ 0 → n ≡ 0
+none-first n m true q e = eqb-true n 0 q
+none-first n m false q e = e
+
+none-rest : (n m : ℕ) (t : Bool) → eqb n 0 ≡ t → cond t m n ≡ 0 → m ≡ 0
+none-rest n m true q e = e
+none-rest n m false q e = absurd (eqb-false n 0 q e)
+
+-- so no test of a list found its fault
+pub none-at : (ns : List ℕ) → firstOf ns ≡ 0 → (k : ℕ) → getD ns k 0 ≡ 0
+unfolding firstOf
+none-at [] e k = refl
+none-at (n ∷ ns) e zero = none-first n (firstOf ns) (eqb n 0) refl e
+none-at (n ∷ ns) e (suc k) = none-at ns (none-rest n (firstOf ns) (eqb n 0) refl e) k
+
+-- a refusal that is 0 stands for a test that found no fault
+pub not-refused : (n : ℕ) (b : Bool) → refuse (suc n) b ≡ 0 → b ≡ false
+not-refused n true e = absurd (omega arith)
+not-refused n false e = refl

@@ -1,0 +1,16 @@
+-- Bytes of a record. Assumes nothing.
+use Prim.Native.Nat.{ℕ, _+_, _*_}
+use mathlib.Core.List.{List, [], _∷_}
+use mathlib.Core.Bool.{Bool, true, false, _&&_}
+use lib.Dec.{leb}
+
+-- "two-byte values high byte first"
+abbrev pub twoBytes : ℕ → ℕ → ℕ
+twoBytes high low = high * 256 + low
+
+-- as many bytes as largest values, and each byte at most the largest value at its place: refusal 3's "a byte outside its codes"
+unfoldable pub isWithin : List ℕ → List ℕ → Bool
+isWithin [] [] = true
+isWithin [] (m ∷ ms) = false
+isWithin (x ∷ xs) [] = false
+isWithin (x ∷ xs) (m ∷ ms) = leb x m && isWithin xs ms

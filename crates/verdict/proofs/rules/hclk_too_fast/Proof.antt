@@ -1,0 +1,15 @@
+-- `verdict::rules::hclk_too_fast` meets its contract. Assumes nothing.
+use Rattle.verdict.specs.Verdict.{hclkTooFast}
+use borrow.Author.Needs.{needs}
+use Rattle.verdict.proofs.rules.hclk_too_fast.Statement.{statement}
+use Rattle.verdict.proofs.rules.hclk_too_fast.Tie as tie
+
+hclk-requires : tie.Need-hclk-requires
+hclk-requires c κs = search needs
+
+returns : tie.Need-returns
+unfolding hclkTooFast
+returns c = simp (c .before .hclk .ensures)
+
+pub hclk-too-fast-spec : {M : Type 1} → statement M
+hclk-too-fast-spec = tie.close (tie.spec hclk-requires returns)

@@ -1,0 +1,80 @@
+//! Compares librikkovan.a with the original clock code, records the original's
+//! answers, and measures both.
+
+mod bench;
+mod compare_plan;
+mod ffi;
+mod plans;
+mod record;
+
+use std::env;
+use std::path::Path;
+use std::process::ExitCode;
+
+const USAGE: &str = "\
+usage: oracle compare [--quick] [--seconds N]
+       oracle record DIR
+       oracle bench
+
+compare  the plan check of librikkovan.a against the original; exit status 1 on
+         a difference. --quick: a bounded part. --seconds N: random plans go on
+         for N seconds at least.
+record   writes DIR/plans.txt: plans in hex and the original's answers.
+bench    nanoseconds per plan check of both.";
+
+fn main() -> ExitCode {
+    sifli::caught::quiet();
+    let arguments: Vec<String> = env::args().skip(1).collect();
+    let arguments: Vec<&str> = arguments.iter().map(String::as_str).collect();
+    match arguments.as_slice() {
+        ["compare", options @ ..] => compare(options),
+        ["record", directory] => record(directory),
+        ["bench"] => {
+            bench::run();
+            ExitCode::SUCCESS
+        }
+        _ => usage(),
+    }
+}
+
+fn compare(options: &[&str]) -> ExitCode {
+    let mut quick = false;
+    let mut seconds = 0;
+    let mut rest = options;
+    loop {
+        rest = match rest {
+            [] => break,
+            ["--quick", rest @ ..] => {
+                quick = true;
+                rest
+            }
+            ["--seconds", number, rest @ ..] => match number.parse() {
+                Ok(number) => {
+                    seconds = number;
+                    rest
+                }
+                Err(_) => return usage(),
+            },
+            _ => return usage(),
+        };
+    }
+    match compare_plan::run(quick, seconds) {
+        0 => ExitCode::SUCCESS,
+        _ => ExitCode::FAILURE,
+    }
+}
+
+fn record(directory: &str) -> ExitCode {
+    match record::run(Path::new(directory)) {
+        Ok(()) => ExitCode::SUCCESS,
+        Err(error) => {
+            eprintln!("oracle: {error}");
+            ExitCode::FAILURE
+        }
+    }
+}
+
+fn usage() -> ExitCode {
+    eprintln!("{USAGE}");
+    ExitCode::from(2)
+}

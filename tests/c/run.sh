@@ -1,0 +1,126 @@
+#!/usr/bin/env bash
+# Tests the header, the library and the daemon, and what make install writes. Run by `make test-c`,
+# which builds the library and the daemon first. Prints a line for each test.
+set -uo pipefail
+cd "$(dirname "$0")/../.." || exit
+unset MAKEFLAGS
+
+cc=${CC:-cc}
+cxx=${CXX:-g++}
+strict=(-Wall -Wextra -pedantic -Werror -O2)
+library=target/staticlib/librikkovan.a
+work=$(mktemp -d)
+trap 'rm -rf "$work"' EXIT
+failures=0
+
+# Runs a command, and shows what it wrote only if it fails.
+check() { # NAME COMMAND..
+    local name=$1
+    shift
+    if "$@" >"$work/log" 2>&1; then
+        echo "test-c: ok: $name"
+    else
+        echo "test-c: FAILED: $name"
+        sed 's/^/    /' "$work/log"
+        failures=$((failures + 1))
+    fi
+}
+
+builds_and_runs() { # PROGRAM COMMAND..
+    local program=$1
+    shift
+    "$@" -o "$program" && "$program"
+}
+
+header_as_c() {
+    builds_and_runs "$work/c" "$cc" -std="$1" "${strict[@]}" -Iinclude tests/c/header.c "$library"
+}
+
+header_as_cxx() {
+    builds_and_runs "$work/cxx" \
+        "$cxx" -std="$1" "${strict[@]}" -Iinclude -x c++ tests/c/header.c -x none "$library"
+}
+
+plan_check() {
+    builds_and_runs "$work/plan_check" \
+        "$cc" -std=c99 "${strict[@]}" -Iinclude tests/c/plan_check.c "$library"
+}
+
+plans_are_made_again() {
+    tools/make-plans.sh "$work/plans" && diff -r "$work/plans" examples/plans
+}
+
+# Runs the daemon and compares its exit status.
+daemon_ends_with() { # STATUS FILE..
+    local wanted=$1 status=0
+    shift
+    build/daemon "$@" || status=$?
+    [ "$status" -eq "$wanted" ] || {
+        echo "exit status $status, not $wanted"
+        return 1
+    }
+}
+
+daemon_on_plans() (
+    export LC_ALL=C
+    daemon_ends_with 1 examples/plans/*.plan >"$work/verdicts" &&
+        diff tests/c/daemon.expected "$work/verdicts"
+)
+
+daemon_on_long_file() {
+    { cat examples/plans/default.plan && head -c 10000 /dev/zero; } >"$work/long"
+    daemon_ends_with 1 "$work/long" | grep 'refused  1 '
+}
+
+# An unreadable file is named on standard error, and the files after it are still checked.
+daemon_on_unreadable() { # FILE
+    daemon_ends_with 1 "$1" examples/plans/default.plan 2>"$work/errors" | grep 'accepted$' &&
+        grep "^daemon: $1: " "$work/errors"
+}
+
+# The library is there, so that make install has nothing to prove: with RT=false it could not.
+installs() {
+    make install RT=false PREFIX="$work/usr" &&
+        builds_and_runs "$work/installed" "$cc" -std=c99 "${strict[@]}" -I"$work/usr/include" \
+            tests/c/header.c -L"$work/usr/lib" -lrikkovan
+}
+
+installs_below_destdir() {
+    make install RT=false DESTDIR="$work/stage" PREFIX=/usr &&
+        cmp include/rikkovan.h "$work/stage/usr/include/rikkovan.h" &&
+        cmp "$library" "$work/stage/usr/lib/librikkovan.a" &&
+        grep -x 'prefix=/usr' "$work/stage/usr/lib/pkgconfig/rikkovan.pc"
+}
+
+links_by_pkg_config() {
+    local flags
+    flags=$(PKG_CONFIG_PATH="$work/usr/lib/pkgconfig" pkg-config --cflags --libs rikkovan) || return
+    # shellcheck disable=SC2086
+    builds_and_runs "$work/pkg" "$cc" -std=c99 "${strict[@]}" tests/c/header.c $flags
+}
+
+check 'header as C99' header_as_c c99
+check 'header as C11' header_as_c c11
+check 'header as C++11' header_as_cxx c++11
+check 'header as C++17' header_as_cxx c++17
+check 'plan check' plan_check
+check 'make-plans.sh writes the shipped plans' plans_are_made_again
+check 'daemon on the shipped plans' daemon_on_plans
+check 'daemon on an accepted plan ends with 0' daemon_ends_with 0 examples/plans/default.plan
+check 'daemon on a refused plan ends with 1' daemon_ends_with 1 examples/plans/short.plan
+check 'daemon on a file of 10,020 bytes' daemon_on_long_file
+check 'daemon on a missing file' daemon_on_unreadable "$work/missing"
+check 'daemon on a folder' daemon_on_unreadable "$work"
+check 'daemon without a file ends with 2' daemon_ends_with 2
+check 'make install' installs
+check 'make install with DESTDIR' installs_below_destdir
+if command -v pkg-config >/dev/null; then
+    check 'pkg-config' links_by_pkg_config
+else
+    echo 'test-c: skipped: pkg-config (it is not installed)'
+fi
+
+[ "$failures" -eq 0 ] || {
+    echo "test-c: $failures failed"
+    exit 1
+}

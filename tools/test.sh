@@ -1,0 +1,75 @@
+#!/usr/bin/env bash
+# The whole test, run by `make test`: proves every crate, then tests the proved library from C and
+# against the Rust. On success the last line is that of rt ci, 'N passed, 0 failed'.
+set -euo pipefail
+cd "$(dirname "$0")/.."
+exec </dev/null
+PATH=$PATH:${HOME:-/root}/.cargo/bin
+
+log=$(mktemp)
+trap 'rm -f "$log"' EXIT
+
+say() { printf 'test: %s\n' "$*"; }
+
+fail() {
+    say "FAILED: $*"
+    exit 1
+}
+
+need() { # COMMAND WHAT-FOR
+    command -v "$1" >/dev/null || fail "$1 is missing; it is needed $2"
+}
+
+# Runs a command, and says how long it took.
+stage() { # NAME COMMAND..
+    local name=$1 began=$SECONDS
+    shift
+    say "$name"
+    "$@" || fail "$name"
+    say "$name: ok ($((SECONDS - began)) s)"
+}
+
+part() { make --no-print-directory "$@"; }
+
+# rt ci refuses a Rattle file that no listed crate has; this also finds a folder without one.
+every_crate_is_listed() {
+    local folder name unlisted=0
+    for folder in crates/*/; do
+        name=$(basename "$folder")
+        if ! grep -qE "^[[:space:]]*${name}[[:space:]]*:" crates.txt; then
+            say "crates/$name is not listed in crates.txt"
+            unlisted=1
+        fi
+    done
+    return "$unlisted"
+}
+
+rt_ci() {
+    rt ci 2>&1 | tee "$log" || return
+    tail -n 1 "$log" | grep -qxE '[0-9]+ passed, 0 failed'
+}
+
+compare() {
+    local sources=${SIFLI_SRC:-../shared/docs/src}
+    if [ ! -d "$sources/sifli-hal/src" ]; then
+        say "comparison with the Rust skipped: no sources at $sources (SIFLI_SRC names their folder)"
+    elif ! command -v cargo >/dev/null; then
+        say 'comparison with the Rust skipped: cargo is missing'
+    else
+        stage 'comparison with the Rust' part compare-quick
+    fi
+}
+
+need rt 'to prove the crates (the Rattle kit)'
+need make 'to build the tests'
+need "${CC:-cc}" 'to test the library from C'
+need "${CXX:-g++}" 'to test the header from C++'
+[ "$(uname -m)" = x86_64 ] || fail 'the library links into x86-64 programs only'
+
+stage 'list of crates' every_crate_is_listed
+stage 'rt ci' rt_ci
+stage 'library' part lib
+stage 'tests from C' part test-c
+compare
+say "all passed ($SECONDS s)"
+tail -n 1 "$log"
