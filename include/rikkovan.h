@@ -3,12 +3,14 @@
  *
  * Link with librikkovan.a (pkg-config name: rikkovan), which is for Linux on x86-64. The library
  * needs nothing but the C library, keeps no state between calls, allocates nothing and does no
- * input or output. Calls may run at the same time in several threads, as long as nothing writes
- * the bytes that are lent to a call before it returns.
+ * input or output. Calls may run at the same time in several threads, as long as nothing else
+ * writes what is lent to a call, or reads what the call writes, before it returns.
  *
  * A lent buffer is a pointer and a number of elements. The pointer must not be NULL, not even where
- * the number is 0, and that many elements must be readable there. Nothing else is asked of the
- * caller: every content and every length gets one answer, and every call returns.
+ * the number is 0, and that many elements must be readable there. An array of a fixed size is lent
+ * by its pointer alone. What a call writes must be writable, and must not overlap with anything
+ * else that is lent to the call. Nothing else is asked of the caller: every content and every
+ * length gets one answer, and every call returns.
  *
  * 1 MHz is 1,000,000 Hz.
  */
@@ -118,10 +120,204 @@ extern "C" {
 uint64_t rikkovan_plan_check(const uint8_t *plan, size_t plan_len);
 
 /*
+ * The head record
+ * ===============
+ *
+ * A head record is the state of a detector head: its registers, its ready flags and its booked
+ * tasks. It is lent as a buffer of 255 bytes. The record stands at the front; the bytes past it may
+ * hold anything, and a reading does not look at them. Numbers of two and four bytes have their high
+ * byte first.
+ */
+#define RIKKOVAN_HEAD_BYTES 255
+
+/* The offset of each part in the buffer, and what it may hold. */
+#define RIKKOVAN_HEAD_LENGTH 0                /* 2 bytes: 109 + 9 * tasks, the bytes that follow */
+#define RIKKOVAN_HEAD_VERSION 2               /* 1 */
+#define RIKKOVAN_HEAD_A(reg) (3 * (reg))      /* byte a of the register of a number, 1 to 34 */
+#define RIKKOVAN_HEAD_B(reg) (3 * (reg) + 1)  /* byte b */
+#define RIKKOVAN_HEAD_C(reg) (3 * (reg) + 2)  /* byte c */
+#define RIKKOVAN_HEAD_HXT48_READY 105         /* 0 or 1 */
+#define RIKKOVAN_HEAD_HRC48_READY 106         /* 0 or 1 */
+#define RIKKOVAN_HEAD_LPSYS_HXT48_READY 107   /* 0 or 1; no frequency depends on it */
+#define RIKKOVAN_HEAD_BOOT_MODE 108           /* 0 to 255 */
+#define RIKKOVAN_HEAD_WAKE_COUNT 109          /* 0 to 255 */
+#define RIKKOVAN_HEAD_TASKS 110               /* the number of tasks, 0 to 16 */
+#define RIKKOVAN_HEAD_TASK(k) (111 + 9 * (k)) /* the task at place k, 0 to 15 */
+
+/* The offset of each field in a task, and what it may hold. */
+#define RIKKOVAN_TASK_ID 0     /* 1 to 255, no two tasks of a head alike */
+#define RIKKOVAN_TASK_CYCLES 1 /* 4 bytes: core cycles in each period, 1 or more */
+#define RIKKOVAN_TASK_PERIOD 5 /* 4 bytes: microseconds, 1 to 10,000,000 */
+
+/*
+ * The registers by number. Each has the three bytes a, b, c; a byte that is not named is 0. A byte
+ * that says on or request is 0 or 1. Of two fields in one byte the first is its high half. The
+ * codes of core select, flash, peripheral clock and USB source are those of a plan; flash has one
+ * more.
+ */
+#define RIKKOVAN_REG_SYSCLK 1                  /* c: core select */
+#define RIKKOVAN_REG_HPSYS_CFGR 2              /* a: hdiv 0 to 255; b: pdiv1, c: pdiv2, 0 to 7 */
+#define RIKKOVAN_REG_DLL1 3                    /* a: on; b: half, 0 or 1; c: stage, 0 to 15 */
+#define RIKKOVAN_REG_DLL2 4                    /* as DLL1 */
+#define RIKKOVAN_REG_FLASH 5                   /* b: clock of flash 1; c: clock of flash 2 */
+#define RIKKOVAN_REG_PERI 6                    /* c: peripheral clock */
+#define RIKKOVAN_REG_USB_SOURCE 7              /* c: USB source */
+#define RIKKOVAN_REG_USB_DIVIDER 8             /* c: 0 to 7 */
+#define RIKKOVAN_REG_TICK 9                    /* 0 */
+#define RIKKOVAN_REG_LOW_POWER 10              /* c: low-power select: 0 LRC10, 1 LRC32 */
+#define RIKKOVAN_REG_HPBG 11                   /* b: hpbg_en on; c: hpbg_vddpsw_en on */
+#define RIKKOVAN_REG_HPSYS_SUPPLY 12           /* c: 0 S, 1 D */
+#define RIKKOVAN_REG_BUCK_VOUT 13              /* c: 0 to 15 */
+#define RIKKOVAN_REG_HPSYS_VOUT 14             /* c: 0 to 15 */
+#define RIKKOVAN_REG_SET_VOUT_M 15             /* c: 0 to 15 */
+#define RIKKOVAN_REG_HPSYS_LDO 16              /* c: vref, 0 to 15 */
+#define RIKKOVAN_REG_HPSYS_TIMING 17           /* b: ram_rm and ram_ra; c: ram_wa and rom_rm */
+#define RIKKOVAN_REG_HRC_CLOCK_SELECT 18       /* b: clkhp_sel, c: clklp_sel, 0 to 255 */
+#define RIKKOVAN_REG_HRC_TRIM 19               /* b, c: a number of two bytes, 0 to 1023 */
+#define RIKKOVAN_REG_HRC_CALIBRATION_LENGTH 20 /* b, c: a number of two bytes, 0 to 65,535 */
+#define RIKKOVAN_REG_HRC_CALIBRATION_ON 21     /* c: on */
+#define RIKKOVAN_REG_HXT48_REQUEST 22          /* c: request */
+#define RIKKOVAN_REG_LRC32_ON 23               /* c: on */
+#define RIKKOVAN_REG_DLL_BUFFER_ON 24          /* c: on */
+#define RIKKOVAN_REG_LPSYS_SYSCLK 25           /* c: LPSYS select: 0 HRC48, 1 HXT48 */
+#define RIKKOVAN_REG_LPSYS_CFGR 26             /* a: hdiv1 0 to 255; b: pdiv1, c: pdiv2, 0 to 7 */
+#define RIKKOVAN_REG_LPSYS_PERI 27             /* c: LPSYS peripheral clock: 0 HRC48, 1 HXT48 */
+#define RIKKOVAN_REG_LPSYS_SUPPLY 28           /* c: 0 D, 1 S */
+#define RIKKOVAN_REG_LPSYS_VOUT 29             /* c: 0 to 15 */
+#define RIKKOVAN_REG_LPSYS_LDO 30              /* c: vref, 0 to 15 */
+#define RIKKOVAN_REG_LPSYS_TIMING 31           /* as the HPSYS timing */
+#define RIKKOVAN_REG_LPSYS_HXT48_REQUEST 32    /* c: request */
+#define RIKKOVAN_REG_HP2LP_REQUEST 33          /* c: request */
+#define RIKKOVAN_REG_LPSYS_MAC 34              /* b: macdiv, c: macfreq, 0 to 255 */
+
+/* The flash code that no plan has. */
+#define RIKKOVAN_MPI_RESERVED 3
+
+/*
+ * What a call on a head answers
+ * =============================
+ *
+ * One word of 64 bits:
+ *
+ *   bits 0 to 31   the refusal number where the call is refused, else the call's value
+ *   bits 32 to 47  the number of journal entries written
+ *   bits 48 to 62  the number of answers taken
+ *   bit 63         1 where the call is refused
+ *
+ * The value of a reading is 0, and a reading writes no entry and takes no answer. So the word of a
+ * reading is 0 where it is done.
+ *
+ * A head is refused, by the first of these tests that fails, with
+ *
+ *   RIKKOVAN_REFUSED_LENGTH   head_len is not 255, there are more than 16 tasks, or the length
+ *                             field is not 109 + 9 * tasks
+ *   RIKKOVAN_REFUSED_VERSION  the version is not 1
+ *   RIKKOVAN_REFUSED_CODE     a register, ready flag or task holds what it may not hold, or two
+ *                             tasks have one id
+ */
+
+/* Whether the call is refused: 0 or 1. */
+#define RIKKOVAN_REFUSED(word) ((word) >> 63 != 0)
+
+/* The refusal number, 0 where the call is not refused. */
+static inline uint32_t rikkovan_refusal(uint64_t word)
+{
+    return RIKKOVAN_REFUSED(word) ? (uint32_t)(word & 0xFFFFFFFF) : 0;
+}
+
+/* The call's value, 0 where the call is refused. */
+static inline uint32_t rikkovan_value(uint64_t word)
+{
+    return RIKKOVAN_REFUSED(word) ? 0 : (uint32_t)(word & 0xFFFFFFFF);
+}
+
+/* The number of journal entries written. */
+static inline uint32_t rikkovan_entries(uint64_t word)
+{
+    return (uint32_t)(word >> 32 & 0xFFFF);
+}
+
+/* The number of answers taken. */
+static inline uint32_t rikkovan_taken(uint64_t word)
+{
+    return (uint32_t)(word >> 48 & 0x7FFF);
+}
+
+/*
+ * The readings
+ * ============
+ *
+ * A reading gives frequencies in Hz, 0 for none. The clocks of a head are:
+ *
+ *   HXT48, HRC48   48 MHz where their ready flag is 1, else none
+ *   DLL1, DLL2     24 MHz * (stage + 1), divided by 2 where half is 1; none where on is 0
+ *   LRC10, LRC32   100,000 Hz, 32,000 Hz
+ *
+ * A divider of 0 divides by 1, and every quotient is rounded down. What is worked out from none is
+ * none. The core reads as on the clock of its core select, whatever the low-power select holds.
+ */
+enum rikkovan_clock {
+    RIKKOVAN_CLOCK_SYSCLK,       /* the clock of the core select; none for DBL96 */
+    RIKKOVAN_CLOCK_HCLK,         /* SYSCLK / hdiv */
+    RIKKOVAN_CLOCK_PCLK1,        /* HCLK / 2^pdiv1 */
+    RIKKOVAN_CLOCK_PCLK2,        /* HCLK / 2^pdiv2 */
+    RIKKOVAN_CLOCK_DLL1,
+    RIKKOVAN_CLOCK_DLL2,
+    RIKKOVAN_CLOCK_PERI,         /* 48 MHz, ready or not */
+    RIKKOVAN_CLOCK_PERI_DIV2,    /* 24 MHz */
+    RIKKOVAN_CLOCK_USB,          /* the USB source, SYSCLK or DLL2, / USB divider */
+    RIKKOVAN_CLOCK_WDT,          /* LRC10 or LRC32, by the low-power select */
+    RIKKOVAN_CLOCK_RTC,          /* LRC10 */
+    RIKKOVAN_CLOCK_MPI1,         /* flash 1: PERI, DLL1 or DLL2; 48 MHz for the reserved code */
+    RIKKOVAN_CLOCK_MPI2,         /* flash 2, as flash 1 */
+    RIKKOVAN_CLOCK_AUD_PLL,      /* none: no register has the audio PLL */
+    RIKKOVAN_CLOCK_AUD_PLL_DIV16 /* none */
+};
+#define RIKKOVAN_CLOCKS 15
+
+enum rikkovan_lpsys_clock {
+    RIKKOVAN_LPSYS_SYSCLK, /* the clock of the LPSYS select */
+    RIKKOVAN_LPSYS_HCLK,   /* LPSYS SYSCLK / hdiv1 */
+    RIKKOVAN_LPSYS_PCLK1,  /* LPSYS HCLK / 2^pdiv1 */
+    RIKKOVAN_LPSYS_PCLK2,  /* LPSYS HCLK / 2^pdiv2 */
+    RIKKOVAN_LPSYS_PERI,   /* the clock of the LPSYS peripheral select */
+    RIKKOVAN_LPSYS_MAC     /* LPSYS HCLK / macdiv */
+};
+#define RIKKOVAN_LPSYS_CLOCKS 6
+
+/*
+ * Reads the 15 frequencies of a head.
+ *
+ *   head      the buffer with the record; it is only read
+ *   head_len  the number of bytes at head
+ *   clocks    gets the frequencies, by the index of enum rikkovan_clock; left as it was where the
+ *             call is refused
+ *
+ * Answers 0, or a word with the refusal 1, 2 or 3. Word and frequencies depend on these bytes and
+ * on nothing else.
+ */
+uint64_t rikkovan_read_clocks(const uint8_t *head, size_t head_len,
+                              uint32_t clocks[RIKKOVAN_CLOCKS]);
+
+/*
+ * Reads the six frequencies of a head's low-power system, LPSYS.
+ *
+ *   head      the buffer with the record; it is only read
+ *   head_len  the number of bytes at head
+ *   lpsys     gets the frequencies, by the index of enum rikkovan_lpsys_clock; left as it was where
+ *             the call is refused
+ *
+ * Answers as rikkovan_read_clocks does.
+ */
+uint64_t rikkovan_read_lpsys(const uint8_t *head, size_t head_len,
+                             uint32_t lpsys[RIKKOVAN_LPSYS_CLOCKS]);
+
+/*
  * A refusal number in words: one line of text in static storage, never NULL.
  *
  * Numbers 1 to 18 refuse what a call was given, and 31 to 43 the state of the head. The plan check
- * answers 1 to 14 only; the others belong to calls that are not in this header yet.
+ * answers 1 to 14 and a reading 1 to 3; the others belong to calls that are not in this header yet.
+ * For the word of a call on a head: rikkovan_refusal_text(rikkovan_refusal(word)).
  */
 static inline const char *rikkovan_refusal_text(uint64_t number)
 {

@@ -1,31 +1,43 @@
-//! `oracle bench`: the plan check of librikkovan.a beside the original's.
+//! `oracle bench`: librikkovan.a beside the original.
 
 use crate::ffi;
-use crate::plans::{Record, coded, likely};
+use crate::heads::{Buffer, random_with_tasks};
+use crate::plans::{self, Record, coded};
+use sifli::head::{self, MOST_TASKS};
 use sifli::plan;
 use sifli::random::Random;
-use sifli::rcc::ConfigBuilder;
+use sifli::rcc::{Clocks, ConfigBuilder};
+use sifli::{readings, world};
 use std::hint::black_box;
 use std::time::Instant;
 
-const PLANS: usize = 1000;
+/// Plans or heads of each sort.
+const INPUTS: usize = 1000;
 const ROUNDS: usize = 21;
-/// Times that a round goes through all plans.
+/// Calls on each plan or head in a round.
 const PASSES: usize = 100;
 
 pub fn run() {
+    println!(
+        "nanoseconds per call: median of {ROUNDS} rounds, each {PASSES} times {INPUTS} plans or heads"
+    );
+    plan_check();
+    println!("reading of the 15 frequencies");
+    read_clocks("(a) heads without tasks", 0);
+    read_clocks("(b) heads with 16 tasks", MOST_TASKS);
+}
+
+fn plan_check() {
     let accepted = plans(|answer| answer == 0);
     let refused = plans(|answer| answer != 0);
     let builders: Vec<ConfigBuilder> = accepted.iter().map(decoded).collect();
-    println!(
-        "plan check, nanoseconds per call: median of {ROUNDS} rounds, each {PASSES} times {PLANS} plans"
-    );
     let [ours, check, with_decoder, ours_refused] = medians([
         &mut || each(&accepted, |plan| ffi::plan_check(plan)),
         &mut || each(&builders, |builder| builder.check()),
         &mut || each(&accepted, |plan| decoded(plan).check()),
         &mut || each(&refused, |plan| ffi::plan_check(plan)),
     ]);
+    println!("plan check");
     println!("(a) accepted plans, which do not panic");
     println!("    rikkovan, decodes the 20 bytes and checks: {ours:.1}");
     println!("    original, checks a struct already decoded: {check:.1}");
@@ -37,13 +49,51 @@ pub fn run() {
     println!("    ratio rikkovan / original: {:.2}", ours / with_decoder);
 }
 
+/// The 15 frequencies of heads with so many tasks.
+fn read_clocks(title: &str, tasks: usize) {
+    let mut random = Random::new(0xBE7D);
+    let heads: Vec<Buffer> = (0..INPUTS)
+        .map(|_| random_with_tasks(&mut random, tasks))
+        .collect();
+    let [ours, in_place, with_decoder] = medians([
+        &mut || each_put(&heads, |_| (), rikkovan_clocks),
+        &mut || each_put(&heads, put, |_| readings::clocks_in_place()),
+        &mut || each_put(&heads, |_| (), decoded_clocks),
+    ]);
+    println!("{title}");
+    println!("    rikkovan, decodes the 255 bytes and reads: {ours:.1}");
+    println!("    original, reads stand-in registers already in place: {in_place:.1}");
+    println!("    ratio rikkovan / original: {:.2}", ours / in_place);
+    println!("    original, the oracle decodes the 255 bytes before it: {with_decoder:.1}");
+    println!("    ratio rikkovan / original: {:.2}", ours / with_decoder);
+}
+
+fn rikkovan_clocks(head: &Buffer) -> [u32; 15] {
+    let mut clocks = [0; 15];
+    ffi::read_clocks(head, &mut clocks, 0);
+    clocks
+}
+
+fn decoded_clocks(head: &Buffer) -> Clocks {
+    put(head);
+    readings::clocks_in_place()
+}
+
+/// Decodes a head and puts it where the stand-in registers are.
+fn put(head: &Buffer) {
+    match head::decode(head) {
+        Ok(head) => world::begin(head, &[]),
+        Err(refusal) => panic!("a head with bytes in range is refused {refusal}"),
+    }
+}
+
 /// Plans of 20 bytes with codes in range whose answer is as wanted.
 fn plans(wanted: impl Fn(u64) -> bool) -> Vec<Record> {
     let mut random = Random::new(0xBE7C);
     let mut plans = Vec::new();
-    while plans.len() < PLANS {
+    while plans.len() < INPUTS {
         let plan = if random.once_in(2) {
-            likely(&mut random)
+            plans::likely(&mut random)
         } else {
             coded(&mut random)
         };
@@ -70,6 +120,16 @@ fn each<P, T>(plans: &[P], check: impl Fn(&P) -> T) {
     }
 }
 
+/// Puts each head in place and then reads it `PASSES` times.
+fn each_put<T>(heads: &[Buffer], put: impl Fn(&Buffer), read: impl Fn(&Buffer) -> T) {
+    for head in heads {
+        put(head);
+        for _ in 0..PASSES {
+            black_box(read(black_box(head)));
+        }
+    }
+}
+
 /// The median nanoseconds per call of each side; every round runs all sides in
 /// turn.
 fn medians<const N: usize>(mut sides: [&mut dyn FnMut(); N]) -> [f64; N] {
@@ -78,7 +138,7 @@ fn medians<const N: usize>(mut sides: [&mut dyn FnMut(); N]) -> [f64; N] {
         for (side, times) in sides.iter_mut().zip(&mut times) {
             let began = Instant::now();
             side();
-            times.push(began.elapsed().as_nanos() as f64 / (PASSES * PLANS) as f64);
+            times.push(began.elapsed().as_nanos() as f64 / (PASSES * INPUTS) as f64);
         }
     }
     times.map(|mut times: Vec<f64>| {

@@ -142,26 +142,6 @@ pub fn select_lpsys_peri(head: &Head, source: u8) -> Outcome {
     })
 }
 
-/// `read_hpsys_clocks_from_hw`.
-pub fn read_clocks(head: &Head) -> Frequencies {
-    reading(head, || frequencies(&rcc::read_hpsys_clocks_from_hw()))
-}
-
-/// LPSYS sysclk, HCLK, PCLK1, PCLK2, peripheral and MAC clock, 0 for none.
-pub fn read_lpsys(head: &Head) -> [u32; 6] {
-    reading(head, || {
-        [
-            rcc::get_lpsys_sysclk_freq(),
-            rcc::get_lpsys_hclk_freq(),
-            rcc::get_lpsys_pclk1_freq(),
-            rcc::get_lpsys_pclk2_freq(),
-            rcc::get_lpsys_clk_peri_freq(),
-            rcc::get_lpsys_mac_clk_freq(),
-        ]
-        .map(|frequency| frequency.map_or(0, |hertz| hertz.0))
-    })
-}
-
 fn run_plain(head: &Head, answers: &[u16], original: impl FnOnce()) -> Outcome {
     run(head, answers, || {
         original();
@@ -207,13 +187,6 @@ fn refused(head: &Head, answer: u64) -> Outcome {
         head: head.clone(),
         taken: 0,
     }
-}
-
-fn reading<T>(head: &Head, original: impl FnOnce() -> T) -> T {
-    world::begin(head.clone(), &[]);
-    let value = original();
-    world::end();
-    value
 }
 
 /// Document 01's number for an `Err` or a panic of the original code.
@@ -265,7 +238,8 @@ fn take_wake_count() -> u8 {
     count
 }
 
-fn frequencies(clocks: &Clocks) -> Frequencies {
+/// The numbers of `Clocks`.
+pub(crate) fn frequencies(clocks: &Clocks) -> Frequencies {
     [
         clocks.sysclk,
         clocks.hclk,

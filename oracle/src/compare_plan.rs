@@ -1,93 +1,40 @@
-//! `oracle compare`: the plan check of librikkovan.a against the original's.
+//! The plan check of librikkovan.a against the original's.
 
+use crate::compare::Extent;
 use crate::ffi;
 use crate::plans::{
     LONGEST, Record, STAGES, coded, damaged, default_with, dlls, likely, near_default, of_length,
     put_dll,
 };
+use crate::tally::{Groups, Tally};
 use sifli::plan::{self, DEFAULT, LENGTH, at};
 use sifli::random::Random;
 use std::time::{Duration, Instant};
 
-/// Differing plans printed per group.
-const SHOWN: u64 = 5;
-
 const RANDOM: u64 = 10_000_000;
-const RANDOM_QUICK: u64 = 5_000_000;
+const RANDOM_QUICK: u64 = 3_500_000;
 
-/// Counts of a group or of all groups.
-#[derive(Default)]
-struct Tally {
-    compared: u64,
-    different: u64,
-    /// How often the original gave each answer 0 to 14.
-    answers: [u64; 15],
-}
-
-impl Tally {
-    fn compare(&mut self, slice: &[u8]) {
-        let original = plan::check(slice);
-        let ours = ffi::plan_check(slice);
-        self.compared += 1;
-        if let Some(count) = self.answers.get_mut(original as usize) {
-            *count += 1;
-        }
-        if original != ours {
-            self.differ(slice, original, ours);
-        }
-    }
-
-    #[cold]
-    fn differ(&mut self, slice: &[u8], original: u64, ours: u64) {
-        self.different += 1;
-        if self.different <= SHOWN {
-            let hex: String = slice.iter().map(|byte| format!("{byte:02X}")).collect();
-            println!("  differs: {hex} original {original}, rikkovan {ours}");
-        }
-    }
-
-    fn add(&mut self, group: &Tally) {
-        self.compared += group.compared;
-        self.different += group.different;
-        for (sum, count) in self.answers.iter_mut().zip(group.answers) {
-            *sum += count;
-        }
-    }
-
-    fn print(&self, name: &str) {
-        let Tally {
-            compared,
-            different,
-            ..
-        } = self;
-        println!("{name}: {compared} compared, {different} different");
-    }
-}
-
-/// Compares all groups and gives the number of differences.
-pub fn run(quick: bool, seconds: u64) -> u64 {
-    let mut total = Tally::default();
-    let mut group = |name: &str, compare: &dyn Fn(&mut Tally)| {
-        let mut tally = Tally::default();
-        compare(&mut tally);
-        tally.print(&format!("plan check, {name}"));
-        total.add(&tally);
-    };
-    group("dividers and DLLs", &|tally| {
-        dividers_and_dlls(tally, quick)
+/// Compares all groups and gives their sum.
+pub fn run(extent: Extent) -> Tally {
+    let mut groups = Groups::new("plan check");
+    groups.group("dividers and DLLs", |tally| {
+        dividers_and_dlls(tally, extent.quick)
     });
-    group("USB, flash and DLLs present", &muxes);
-    group("one byte changed", &one_byte_changed);
-    group("lengths 0 to 40", &lengths);
-    group("length fields", &length_fields);
-    group("random plans", &|tally| random_plans(tally, quick, seconds));
-    let answers: Vec<String> = (0..)
-        .zip(total.answers)
-        .map(|(answer, count)| format!("{answer}: {count}"))
-        .collect();
-    println!("answers of the original: {}", answers.join(", "));
-    total.print("total");
-    total.different
+    groups.group("USB, flash and DLLs present", muxes);
+    groups.group("one byte changed", one_byte_changed);
+    groups.group("lengths 0 to 40", lengths);
+    groups.group("length fields", length_fields);
+    groups.group("random plans", |tally| random_plans(tally, extent));
+    groups.finish(14)
+}
+
+fn compare(tally: &mut Tally, slice: &[u8]) {
+    let original = plan::check(slice);
+    let ours = ffi::plan_check(slice);
+    tally.count(original);
+    if original != ours {
+        tally.differ(slice, original, ours);
+    }
 }
 
 /// Core select, hdiv, both pdivs, every DLL1, DLL2 absent and at stages 11 and
@@ -126,7 +73,7 @@ fn divider_settings(tally: &mut Tally, mut plan: Record, quick: bool) {
         for pdivs in 0..64 {
             plan[at::PDIV1] = pdivs / 8;
             plan[at::PDIV2] = pdivs % 8;
-            tally.compare(&plan);
+            compare(tally, &plan);
         }
     }
 }
@@ -154,7 +101,7 @@ fn mux_settings(tally: &mut Tally, mut plan: Record) {
         plan[at::USB_SOURCE] = setting / 2 % 2;
         plan[at::MPI1] = setting / 4 % 3;
         plan[at::MPI2] = setting / 12;
-        tally.compare(&plan);
+        compare(tally, &plan);
     }
 }
 
@@ -176,7 +123,7 @@ fn one_byte_changed(tally: &mut Tally) {
             for byte in 0..=255 {
                 let mut changed = plan;
                 changed[index] = byte;
-                tally.compare(&changed);
+                compare(tally, &changed);
             }
         }
     }
@@ -186,11 +133,11 @@ fn lengths(tally: &mut Tally) {
     let mut random = Random::new(0x1E46);
     for length in 0..=LONGEST {
         for slice in of_length(length) {
-            tally.compare(&slice);
+            compare(tally, &slice);
         }
         for _ in 0..100 {
             let slice: Vec<u8> = (0..length).map(|_| random.byte()).collect();
-            tally.compare(&slice);
+            compare(tally, &slice);
         }
     }
 }
@@ -201,16 +148,17 @@ fn length_fields(tally: &mut Tally) {
         let mut plan = default_with(changes);
         for field in 0..=u16::MAX {
             plan[..2].copy_from_slice(&field.to_be_bytes());
-            tally.compare(&plan);
+            compare(tally, &plan);
         }
     }
 }
 
-fn random_plans(tally: &mut Tally, quick: bool, seconds: u64) {
+fn random_plans(tally: &mut Tally, extent: Extent) {
     let mut random = Random::new(0x5EED);
-    let number = if quick { RANDOM_QUICK } else { RANDOM };
+    let number = if extent.quick { RANDOM_QUICK } else { RANDOM };
+    let least = Duration::from_secs(extent.seconds);
     let began = Instant::now();
-    while tally.compared < number || began.elapsed() < Duration::from_secs(seconds) {
+    while tally.compared < number || began.elapsed() < least {
         for _ in 0..1000 {
             random_plan(tally, &mut random);
         }
@@ -219,13 +167,13 @@ fn random_plans(tally: &mut Tally, quick: bool, seconds: u64) {
 
 fn random_plan(tally: &mut Tally, random: &mut Random) {
     match random.below(8) {
-        0..=1 => tally.compare(&coded(random)),
-        2..=3 => tally.compare(&near_default(random)),
-        4..=6 => tally.compare(&likely(random)),
+        0..=1 => compare(tally, &coded(random)),
+        2..=3 => compare(tally, &near_default(random)),
+        4..=6 => compare(tally, &likely(random)),
         _ => {
             let mut buffer = [0; LONGEST];
             let length = damaged(random, &mut buffer);
-            tally.compare(&buffer[..length]);
+            compare(tally, &buffer[..length]);
         }
     }
 }

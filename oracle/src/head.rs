@@ -9,16 +9,35 @@ pub const BUFFER: usize = 255;
 /// Registers 1 to 34 by number, each the 24-bit value of its bytes a, b, c.
 pub type Registers = [u32; 35];
 
-const MOST_TASKS: usize = 16;
-const TASK: usize = 9;
-const VERSION: usize = 2;
-const FLAGS: usize = 105;
-const COUNT: usize = 110;
-const TASKS: usize = 111;
+/// Where each part lies in the record; register n has the bytes a, b, c at 3 n.
+pub mod at {
+    pub const VERSION: usize = 2;
+    /// HXT48, HRC48 and LPSYS HXT48 ready.
+    pub const FLAGS: usize = 105;
+    pub const BOOT_MODE: usize = 108;
+    pub const WAKE_COUNT: usize = 109;
+    pub const COUNT: usize = 110;
+    pub const TASKS: usize = 111;
+    pub const fn a(number: usize) -> usize {
+        3 * number
+    }
+    pub const fn b(number: usize) -> usize {
+        3 * number + 1
+    }
+    pub const fn c(number: usize) -> usize {
+        3 * number + 2
+    }
+}
+
+pub const MOST_TASKS: usize = 16;
+/// The bytes of a task.
+pub const TASK: usize = 9;
+/// A task's longest period in microseconds.
+pub const LONGEST_PERIOD: u32 = 10_000_000;
 
 /// The largest value of the bytes a, b, c of registers 1 to 34. An unused byte
 /// has 0, a free one 255.
-const LARGEST: [[u8; 3]; 34] = [
+pub const LARGEST: [[u8; 3]; 34] = [
     [0, 0, 3],     // 1 core select
     [255, 7, 7],   // 2 hdiv, pdiv1, pdiv2
     [1, 1, 15],    // 3 DLL1: on, half, stage
@@ -93,26 +112,26 @@ pub fn decode(buffer: &[u8]) -> Result<Head, u64> {
     if buffer.len() != BUFFER {
         return Err(1);
     }
-    let count = buffer[COUNT] as usize;
+    let count = buffer[at::COUNT] as usize;
     let length = u16::from_be_bytes([buffer[0], buffer[1]]) as usize;
     if count > MOST_TASKS || length != 109 + TASK * count {
         return Err(1);
     }
-    if buffer[VERSION] != 1 {
+    if buffer[at::VERSION] != 1 {
         return Err(2);
     }
-    let flags = &buffer[FLAGS..FLAGS + 3];
+    let flags = &buffer[at::FLAGS..at::FLAGS + 3];
     if flags.iter().any(|&flag| flag > 1) {
         return Err(3);
     }
     Ok(Head {
-        registers: registers(&buffer[VERSION + 1..FLAGS])?,
+        registers: registers(&buffer[at::a(1)..at::FLAGS])?,
         hxt48_ready: flags[0] == 1,
         hrc48_ready: flags[1] == 1,
         lpsys_hxt48_ready: flags[2] == 1,
-        boot_mode: buffer[FLAGS + 3],
-        wake_count: buffer[FLAGS + 4],
-        tasks: tasks(&buffer[TASKS..TASKS + TASK * count])?,
+        boot_mode: buffer[at::BOOT_MODE],
+        wake_count: buffer[at::WAKE_COUNT],
+        tasks: tasks(&buffer[at::TASKS..at::TASKS + TASK * count])?,
     })
 }
 
@@ -136,7 +155,8 @@ fn tasks(bytes: &[u8]) -> Result<Vec<Task>, u64> {
             cycles: u32::from_be_bytes([record[1], record[2], record[3], record[4]]),
             period_us: u32::from_be_bytes([record[5], record[6], record[7], record[8]]),
         };
-        let fit = task.id != 0 && task.cycles != 0 && (1..=10_000_000).contains(&task.period_us);
+        let fit =
+            task.id != 0 && task.cycles != 0 && (1..=LONGEST_PERIOD).contains(&task.period_us);
         if !fit || tasks.iter().any(|other| other.id == task.id) {
             return Err(3);
         }
@@ -174,19 +194,18 @@ impl Head {
     pub fn encode(&self, buffer: &mut [u8; BUFFER]) {
         let length = 109 + TASK * self.tasks.len();
         buffer[..2].copy_from_slice(&(length as u16).to_be_bytes());
-        buffer[VERSION] = 1;
-        for (index, value) in self.registers[1..].iter().enumerate() {
-            let at = VERSION + 1 + 3 * index;
-            buffer[at..at + 3].copy_from_slice(&value.to_be_bytes()[1..]);
+        buffer[at::VERSION] = 1;
+        for (number, value) in self.registers.iter().enumerate().skip(1) {
+            buffer[at::a(number)..=at::c(number)].copy_from_slice(&value.to_be_bytes()[1..]);
         }
-        buffer[FLAGS] = self.hxt48_ready.into();
-        buffer[FLAGS + 1] = self.hrc48_ready.into();
-        buffer[FLAGS + 2] = self.lpsys_hxt48_ready.into();
-        buffer[FLAGS + 3] = self.boot_mode;
-        buffer[FLAGS + 4] = self.wake_count;
-        buffer[COUNT] = self.tasks.len() as u8;
+        buffer[at::FLAGS] = self.hxt48_ready.into();
+        buffer[at::FLAGS + 1] = self.hrc48_ready.into();
+        buffer[at::FLAGS + 2] = self.lpsys_hxt48_ready.into();
+        buffer[at::BOOT_MODE] = self.boot_mode;
+        buffer[at::WAKE_COUNT] = self.wake_count;
+        buffer[at::COUNT] = self.tasks.len() as u8;
         for (index, task) in self.tasks.iter().enumerate() {
-            let at = TASKS + TASK * index;
+            let at = at::TASKS + TASK * index;
             buffer[at] = task.id;
             buffer[at + 1..at + 5].copy_from_slice(&task.cycles.to_be_bytes());
             buffer[at + 5..at + 9].copy_from_slice(&task.period_us.to_be_bytes());

@@ -2,11 +2,20 @@
 //! answers, and measures both.
 
 mod bench;
+mod compare;
+mod compare_damaged;
+mod compare_head;
 mod compare_plan;
 mod ffi;
+mod heads;
+mod lent;
 mod plans;
 mod record;
+mod record_head;
+mod record_plan;
+mod tally;
 
+use compare::Extent;
 use std::env;
 use std::path::Path;
 use std::process::ExitCode;
@@ -16,11 +25,12 @@ usage: oracle compare [--quick] [--seconds N]
        oracle record DIR
        oracle bench
 
-compare  the plan check of librikkovan.a against the original; exit status 1 on
-         a difference. --quick: a bounded part. --seconds N: random plans go on
-         for N seconds at least.
-record   writes DIR/plans.txt: plans in hex and the original's answers.
-bench    nanoseconds per plan check of both.";
+compare  the plan check and the readings of librikkovan.a against the original;
+         exit status 1 on a difference. --quick: a bounded part. --seconds N:
+         random plans, and random heads, go on for N seconds at least.
+record   writes DIR/plans.txt and DIR/heads.txt: plans and heads in hex and the
+         original's answers.
+bench    nanoseconds per plan check and per reading of both.";
 
 fn main() -> ExitCode {
     sifli::caught::quiet();
@@ -38,19 +48,18 @@ fn main() -> ExitCode {
 }
 
 fn compare(options: &[&str]) -> ExitCode {
-    let mut quick = false;
-    let mut seconds = 0;
+    let mut extent = Extent::default();
     let mut rest = options;
     loop {
         rest = match rest {
             [] => break,
             ["--quick", rest @ ..] => {
-                quick = true;
+                extent.quick = true;
                 rest
             }
             ["--seconds", number, rest @ ..] => match number.parse() {
                 Ok(number) => {
-                    seconds = number;
+                    extent.seconds = number;
                     rest
                 }
                 Err(_) => return usage(),
@@ -58,7 +67,7 @@ fn compare(options: &[&str]) -> ExitCode {
             _ => return usage(),
         };
     }
-    match compare_plan::run(quick, seconds) {
+    match compare::run(extent) {
         0 => ExitCode::SUCCESS,
         _ => ExitCode::FAILURE,
     }

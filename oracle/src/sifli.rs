@@ -29,6 +29,7 @@ pub mod pac;
 pub mod plan;
 pub mod random;
 pub mod rcc;
+pub mod readings;
 pub mod world;
 
 #[cfg(test)]

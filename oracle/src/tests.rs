@@ -4,6 +4,7 @@ mod calibration;
 mod init;
 mod lpsys;
 mod plan;
+mod readings;
 mod reconfigure;
 mod record;
 mod replay;

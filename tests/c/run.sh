@@ -41,9 +41,9 @@ header_as_cxx() {
         "$cxx" -std="$1" "${strict[@]}" -Iinclude -x c++ tests/c/header.c -x none "$library"
 }
 
-plan_check() {
-    builds_and_runs "$work/plan_check" \
-        "$cc" -std=c99 "${strict[@]}" -Iinclude tests/c/plan_check.c "$library"
+calls() { # FILE, without .c
+    builds_and_runs "$work/$1" \
+        "$cc" -std=c99 "${strict[@]}" -Iinclude "tests/c/$1.c" "$library"
 }
 
 plans_are_made_again() {
@@ -103,7 +103,8 @@ check 'header as C99' header_as_c c99
 check 'header as C11' header_as_c c11
 check 'header as C++11' header_as_cxx c++11
 check 'header as C++17' header_as_cxx c++17
-check 'plan check' plan_check
+check 'plan check' calls plan_check
+check 'readings' calls readings
 check 'make-plans.sh writes the shipped plans' plans_are_made_again
 check 'daemon on the shipped plans' daemon_on_plans
 check 'daemon on an accepted plan ends with 0' daemon_ends_with 0 examples/plans/default.plan

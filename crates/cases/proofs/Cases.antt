@@ -8,6 +8,10 @@ use Rattle.record.specs.Refusals.{firstOf}
 use Rattle.clock.specs.Clock.{dllHz, divided, shifted}
 use Rattle.verdict.specs.declared.Verdict.{Verdict}
 use Rattle.verdict.specs.declared.Verdict.the-variants.{Accepted, Refused}
+use Rattle.dvfs.specs.declared.hpsys.HpsysDvfsMode.the-variants.{D0, D1, S0, S1}
+use Rattle.dvfs.specs.declared.hpsys.HpsysModeFound.the-variants.{Mode, OutOfRange}
+use Rattle.dvfs.specs.Hpsys.{modeOf}
+use Rattle.journal.specs.Run.{cycles}
 use Rattle.plan.specs.Plan.{settled, coded, recordRefusal, dllOf, planOf, decoded, encoded, legal, defaultRecord}
 use Rattle.verdict.specs.Verdict.{sysHz, hclkHz, pclk1Hz, pclk2Hz, usbHz, coreOnAbsentDll1, coreOnDbl96, flashOnAbsentDll, usbOnAbsentDll2, usbNot60, dll1CoreTooSlow, hclkTooFast, pclk1TooFast, pclk2TooFast, dll2TooFast, planRefusal, usbDivider, targetOf, verdictOf, verdict, numberOf}
 
@@ -38,3 +42,20 @@ plan-cases :
     × (number (set defaultRecord 11 12) ≡ 14)
 unfolding verdict decoded recordRefusal firstOf coded isWithin settled planOf dllOf verdictOf planRefusal legal encoded coreOnAbsentDll1 coreOnDbl96 flashOnAbsentDll usbOnAbsentDll2 usbNot60 dll1CoreTooSlow hclkTooFast pclk1TooFast pclk2TooFast dll2TooFast usbHz sysHz hclkHz pclk1Hz pclk2Hz dllHz divided shifted targetOf usbDivider
 plan-cases = (refl, refl, refl, refl, refl, refl, refl, refl)
+
+mode-cases :
+    -- "Modes: 24 D0, 25 and 48 D1, 49 and 144 S0, 145 and 240 S1, 241 none."
+    (modeOf 24 ≡ Mode D0)
+    × (modeOf 25 ≡ Mode D1)
+    × (modeOf 48 ≡ Mode D1)
+    × (modeOf 49 ≡ Mode S0)
+    × (modeOf 144 ≡ Mode S0)
+    × (modeOf 145 ≡ Mode S1)
+    × (modeOf 240 ≡ Mode S1)
+    × (modeOf 241 ≡ OutOfRange)
+unfolding modeOf
+mode-cases = (refl, refl, refl, refl, refl, refl, refl, refl)
+
+-- "250 us at 240 MHz: 60,000 cycles."
+delay-case : cycles 240000000 250 ≡ 60000
+delay-case = refl

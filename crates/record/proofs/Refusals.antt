@@ -1,6 +1,6 @@
 -- Laws of `firstOf`. Assumes nothing.
 use Prim.Native.Nat.{ℕ, zero, suc}
-use mathlib.Core.Path.{_≡_, refl}
+use mathlib.Core.Path.{_≡_, refl, sym}
 use mathlib.Core.Bool.{Bool, true, false, cond}
 use mathlib.Core.List.{List, [], _∷_}
 use native.Mathlib.Omega.{arith}
@@ -8,6 +8,15 @@ use lib.Dec.{eqb}
 use lib.ListN.{getD}
 use borrow.Author.Tests.{eqb-true, eqb-false}
 use Rattle.record.specs.Refusals.{refuse, firstOf}
+
+-- no test, no refusal; a test that finds no fault leaves the answer to the rest
+pub no-test : firstOf [] ≡ 0
+unfolding firstOf
+no-test = refl
+
+pub no-fault : (n : ℕ) (ns : List ℕ) → firstOf (refuse n false ∷ ns) ≡ firstOf ns
+unfolding firstOf
+no-fault n ns = refl
 
 -- where nothing is refused, the first test found no fault, and nothing of the rest is refused
 none-first : (n m : ℕ) (t : Bool) → eqb n 0 ≡ t → cond t m n ≡ 0 → n ≡ 0
@@ -29,3 +38,12 @@ none-at (n ∷ ns) e (suc k) = none-at ns (none-rest n (firstOf ns) (eqb n 0) re
 pub not-refused : (n : ℕ) (b : Bool) → refuse (suc n) b ≡ 0 → b ≡ false
 not-refused n true e = absurd (omega arith)
 not-refused n false e = refl
+
+-- the last test of a list gives its own answer
+pub only-test : (n : ℕ) → firstOf (n ∷ []) ≡ n
+unfolding firstOf
+only-test n = by (eqb n 0) refl
+  where
+    by : (t : Bool) → eqb n 0 ≡ t → cond t 0 n ≡ n
+    by true e = sym (eqb-true n 0 e)
+    by false e = refl

@@ -1,4 +1,4 @@
-// time.rs: frequencies in hertz and in whole megahertz.
+// time.rs: frequencies in hertz and in whole megahertz. The source is modified from embassy-stm32; see NOTICE.
 ghost use mathlib.Core.Path.{_≡_};
 ghost use Prim.Native.Nat.{_+_, _*_, _/_};
 ghost use Rattle.time.specs.Frequency.{exact, quotient, megahertz, maybe, found};
@@ -113,7 +113,7 @@ impl MaybeHertz {
         ensures { λ r. ⌜ r .0 ≡ maybe value ⌝ }
     {
         let Reading::At(f) = value else {
-            return MaybeHertz(0);
+            return MaybeHertz::NONE;
         };
         MaybeHertz(f.0)
     }

@@ -1,11 +1,13 @@
 -- What an accepted plan has. Assumes nothing.
-use mathlib.Core.Path.{_≡_}
-use mathlib.Core.Bool.{true, false}
-use borrow.Author.Tests.{not-false}
+use mathlib.Core.Path.{_≡_, refl, sym}
+use mathlib.Core.Bool.{Bool, true, false, cond}
+use borrow.Author.Tests.{not-false, eqb-true}
+use lib.Dec.{eqb}
 use Rattle.record.proofs.Refusals.{none-at, not-refused}
 use Rattle.plan.specs.declared.Plan.{Plan}
 use Rattle.plan.specs.Plan.{legal}
-use Rattle.verdict.specs.Verdict.{planTests, planRefusal, coreOnAbsentDll1, coreOnDbl96, flashOnAbsentDll, usbOnAbsentDll2, usbNot60, dll1CoreTooSlow, hclkTooFast, pclk1TooFast, pclk2TooFast, dll2TooFast}
+use Rattle.verdict.specs.declared.Verdict.the-variants.{Accepted, Refused}
+use Rattle.verdict.specs.Verdict.{targetOf, verdictOf, numberOf, planTests, planRefusal, coreOnAbsentDll1, coreOnDbl96, flashOnAbsentDll, usbOnAbsentDll2, usbNot60, dll1CoreTooSlow, hclkTooFast, pclk1TooFast, pclk2TooFast, dll2TooFast}
 
 -- an accepted plan passed each test
 pub record Passed (p : Plan) : Type 0 where
@@ -40,3 +42,12 @@ passed p e =
       test-13 = not-refused 12 _ (at 10);
       test-14 = not-refused 13 _ (at 11);
     }
+
+-- the number of a verdict is the plan's refusal, 0 for none
+pub number-is : (p : Plan) → numberOf (verdictOf p) ≡ planRefusal p
+unfolding verdictOf
+number-is p = by (eqb (planRefusal p) 0) refl
+  where
+    by : (t : Bool) → eqb (planRefusal p) 0 ≡ t → numberOf (cond t (Accepted (targetOf p)) (Refused (planRefusal p))) ≡ planRefusal p
+    by true e = sym (eqb-true (planRefusal p) 0 e)
+    by false e = refl

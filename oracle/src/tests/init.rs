@@ -2,6 +2,7 @@ use super::{at_48_mhz, at_240_mhz, entries};
 use crate::call;
 use crate::head::Head;
 use crate::plan::{DEFAULT, Plan, at, decode};
+use crate::readings;
 
 fn plan_with(changes: &[(usize, u8)]) -> Plan {
     let mut record = DEFAULT;
@@ -21,7 +22,7 @@ fn default_plan() {
     assert_eq!((outcome.answer, outcome.value, outcome.taken), (0, 0, 9));
     assert_eq!(outcome.entries, entries(&DEFAULT_PLAN));
     assert_eq!(outcome.clocks, DEFAULT_CLOCKS);
-    assert_eq!(call::read_clocks(&outcome.head), DEFAULT_CLOCKS);
+    assert_eq!(readings::read_clocks(&outcome.head), DEFAULT_CLOCKS);
 }
 
 const DEFAULT_PLAN: [(u32, u32); 38] = [

@@ -2,6 +2,7 @@ use super::{at_48_mhz, at_240_mhz, entries, on_dbl96};
 use crate::call;
 use crate::head::{BUFFER, Head, decode};
 use crate::pmu::dvfs::HpsysDvfsMode;
+use crate::readings;
 
 fn lpsys_at_48_on_s() -> Head {
     let mut head = at_240_mhz();
@@ -19,7 +20,7 @@ fn request_20() {
     assert_eq!(outcome.answer, 0);
     let expected = [(30, 6), (26, 0x020000), (31, 0x000162), (28, 0)];
     assert_eq!(outcome.entries, entries(&expected));
-    assert_eq!(call::read_lpsys(&outcome.head)[1], 24_000_000);
+    assert_eq!(readings::read_lpsys(&outcome.head)[1], 24_000_000);
 }
 
 #[test]
@@ -129,7 +130,7 @@ fn setters() {
     assert_eq!(outcome.entries, entries(&[(26, 0x010705)]));
     let outcome = call::config_lpsys_mac_clock(&head, 6, 9);
     assert_eq!(outcome.entries, entries(&[(34, 0x000609)]));
-    assert_eq!(call::read_lpsys(&outcome.head)[5], 8_000_000);
+    assert_eq!(readings::read_lpsys(&outcome.head)[5], 8_000_000);
     let outcome = call::select_lpsys_sysclk(&head, 1);
     assert_eq!(outcome.entries, entries(&[(25, 1)]));
     let outcome = call::select_lpsys_peri(&head, 1);

@@ -64,14 +64,3 @@ fn answers_run_out() {
     assert_eq!(outcome.entries.last(), Some(&0x300001E0));
     assert_eq!(outcome.head.registers[1], 1);
 }
-
-/// DBL96 reads as none, a reserved flash select as 48 MHz.
-#[test]
-fn readings() {
-    let mut head = at_48_mhz();
-    head.registers[1] = 2;
-    head.registers[5] = 0x000302;
-    let clocks = call::read_clocks(&head);
-    assert_eq!(clocks[..6], [0; 6]);
-    assert_eq!(clocks[11..13], [48_000_000, 0]);
-}

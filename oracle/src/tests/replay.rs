@@ -4,6 +4,7 @@ use crate::call::{self, Outcome};
 use crate::head::{BUFFER, Head, decode};
 use crate::plan::{self, DEFAULT, Plan, at};
 use crate::random::Random;
+use crate::readings;
 use crate::world::{DELAY, WAIT};
 
 const HEADS: usize = 5_000;
@@ -80,7 +81,7 @@ fn every_call() {
         holds(&head, 0, 4, &outcome);
         holds(&head, 0, 4, &call::ensure_safe_lcpu_frequency(&head));
         holds(&head, 0, 1, &call::cancel_lcpu_active_request(&head));
-        call::read_clocks(&head);
-        call::read_lpsys(&head);
+        let read = (readings::read_clocks(&head), readings::read_lpsys(&head));
+        assert_eq!(readings::both(head), Ok(read));
     }
 }

@@ -1,0 +1,112 @@
+// Calls on a head's bytes: the tests that they share, and the way from the bytes to a running call and back.
+ghost use mathlib.Core.Path.{_≡_};
+ghost use lib.ListN.{length};
+ghost use Rattle.record.specs.Refusals.{firstOf};
+ghost use Rattle.head.specs.Encodable.{Encodable};
+ghost use Rattle.head.specs.Head.{bufferBytes};
+ghost use Rattle.call.specs.Call.{journalTests, answersTests, Opens, Finishes};
+ghost use Rattle.journal.specs.Run.{begin};
+ghost use Rattle.journal.specs.Machine.{machineOf};
+use head::Head;
+use journal::Machine;
+
+pub const JOURNAL_WORDS: usize = 128;
+
+pub const MOST_ANSWERS: usize = 4096;
+
+// What a call answers: 0 or its refusal, its value, the entries written and the answers taken.
+pub struct Answer {
+    pub refusal: u8,
+    pub value: u32,
+    pub entries: usize,
+    pub taken: usize,
+}
+
+pub struct Opened {
+    pub refusal: u8,
+    pub head: Head,
+}
+
+// 17, then the head's 1 to 3.
+pub fn open(buffer: &[u8], journal: &[u32]) -> Opened
+    ensures { λ r. ⌜ Opens (firstOf (journalTests (now (buffer .entry)) (now (journal .entry)))) (now (buffer .entry)) r ⌝ }
+{
+    let decoded = head::decode(buffer);
+    let head = decoded.head;
+    if journal.len() < JOURNAL_WORDS {
+        return Opened { refusal: 17, head };
+    }
+    Opened {
+        refusal: decoded.refusal,
+        head,
+    }
+}
+
+// 17, 18, then the head's 1 to 3.
+pub fn open_with_answers(buffer: &[u8], journal: &[u32], answers: &[u16]) -> Opened
+    ensures { λ r. ⌜ Opens (firstOf (answersTests (now (buffer .entry)) (now (journal .entry)) (now (answers .entry)))) (now (buffer .entry)) r ⌝ }
+{
+    let decoded = head::decode(buffer);
+    let head = decoded.head;
+    if journal.len() < JOURNAL_WORDS {
+        return Opened { refusal: 17, head };
+    }
+    if MOST_ANSWERS < answers.len() {
+        return Opened { refusal: 18, head };
+    }
+    Opened {
+        refusal: decoded.refusal,
+        head,
+    }
+}
+
+impl Answer {
+    // A refusal that changes neither head nor journal.
+    pub fn refused(refusal: u8) -> Answer
+        ensures { λ r. ⌜ r ≡ record { refusal = refusal; value = 0; entries = 0; taken = 0 } ⌝ }
+    {
+        Answer {
+            refusal,
+            value: 0,
+            entries: 0,
+            taken: 0,
+        }
+    }
+}
+
+// A call as it begins on a head.
+pub fn start(head: Head) -> Machine
+    ensures { λ r. ⌜ r ≡ machineOf (begin head) ⌝ }
+{
+    Machine {
+        head,
+        at: 0,
+        taken: 0,
+        stop: 0,
+    }
+}
+
+// The answer of a call that has come to its end, with its head written back.
+pub fn finish(m: Machine, value: u32, buffer: &mut [u8]) -> Answer
+    requires { ⌜ Encodable (m .head) ⌝ }
+    requires { ⌜ length (now buffer) ≡ bufferBytes ⌝ }
+    ensures { λ r. ⌜ Finishes m value r (now (buffer .entry)) (now (buffer .exit)) ⌝ }
+{
+    let head = m.head;
+    head::encode(head, buffer);
+    let stop = m.stop;
+    if stop != 0 {
+        return Answer {
+            refusal: stop,
+            value: 0,
+            entries: m.at,
+            taken: m.taken,
+        };
+    }
+    Answer {
+        refusal: 0,
+        value,
+        entries: m.at,
+        taken: m.taken,
+    }
+}

@@ -1,0 +1,71 @@
+-- Frequencies of HPSYS read from a head: rcc/clock_read.rs. Assumes nothing.
+use Prim.Native.Nat.{ℕ}
+use mathlib.Core.Bool.{Bool, cond}
+use lib.Dec.{eqb}
+use lib.ListN.{getD}
+use Rattle.time.specs.declared.Reading.{Reading}
+use Rattle.time.specs.declared.Reading.the-variants.{At, Unreadable}
+use Rattle.clock.specs.Clock.{dllHz, divided, shifted}
+use Rattle.head.specs.declared.Head.{Head}
+use Rattle.head.specs.Word.{byteA, byteB, byteC}
+
+-- register `n` of a head; "a value without a letter in c", so such a register's value is its whole word
+abbrev pub reg : Head → ℕ → ℕ
+reg h n = getD (h .regs) n 0
+
+-- a frequency of `n` Hz
+abbrev pub hertz : ℕ → Reading
+hertz n = At (record { 0 = n })
+
+-- `get_hxt48_freq` and `get_hrc48_freq`: 48 MHz where the ready flag is 1
+abbrev pub readyReading : Bool → Reading
+readyReading ready = cond ready (hertz 48000000) Unreadable
+
+-- `get_clk_dll1_freq` and `get_clk_dll2_freq`: on a, half b, stage c
+unfoldable pub dllReading : ℕ → Reading
+dllReading word = cond (eqb (byteA word) 1) (hertz (dllHz (byteC word) (eqb (byteB word) 1))) Unreadable
+
+-- a frequency behind a divider, and behind a prescaler; none where there is none
+abbrev pub dividedReading : Reading → ℕ → Reading
+dividedReading (At f) d = hertz (divided (f .0) d)
+dividedReading Unreadable d = Unreadable
+
+abbrev pub shiftedReading : Reading → ℕ → Reading
+shiftedReading (At f) e = hertz (shifted (f .0) e)
+shiftedReading Unreadable e = Unreadable
+
+-- `get_clk_sys_freq`: 0 HRC48, 1 HXT48, 3 DLL1; "DBL96 reads as none"
+unfoldable pub sysOf : Head → Reading
+sysOf h =
+    cond (eqb (reg h 1) 0) (readyReading (h .«hrc48_ready»))
+    (cond (eqb (reg h 1) 1) (readyReading (h .«hxt48_ready»))
+    (cond (eqb (reg h 1) 3) (dllReading (reg h 3))
+    Unreadable))
+
+-- `get_hclk_freq`: hdiv a of register 2
+unfoldable pub hclkOf : Head → Reading
+hclkOf h = dividedReading (sysOf h) (byteA (reg h 2))
+
+-- `get_pclk_freq` and `get_pclk2_freq`: pdiv1 b, pdiv2 c
+unfoldable pub pclkOf : Head → Reading
+pclkOf h = shiftedReading (hclkOf h) (byteB (reg h 2))
+
+unfoldable pub pclk2Of : Head → Reading
+pclk2Of h = shiftedReading (hclkOf h) (byteC (reg h 2))
+
+-- `get_clk_usb_source`: 0 the core's clock, 1 DLL2
+unfoldable pub usbSource : Head → Reading
+usbSource h = cond (eqb (reg h 7) 1) (dllReading (reg h 4)) (sysOf h)
+
+-- `get_clk_usb_freq`
+unfoldable pub usbOf : Head → Reading
+usbOf h = dividedReading (usbSource h) (byteC (reg h 8))
+
+-- `get_clk_wdt_freq`: 0 Lrc10, 1 Lrc32
+unfoldable pub wdtOf : Head → Reading
+wdtOf h = cond (eqb (reg h 10) 0) (hertz 100000) (hertz 32000)
+
+-- `get_clk_mpi1_freq` and `get_clk_mpi2_freq` of a flash select: 1 DLL1, 2 DLL2; Peri is 48 MHz from either source, and "a reserved
+-- flash select" reads "as 48 MHz"
+unfoldable pub flashOf : ℕ → Head → Reading
+flashOf select h = cond (eqb select 1) (dllReading (reg h 3)) (cond (eqb select 2) (dllReading (reg h 4)) (hertz 48000000))

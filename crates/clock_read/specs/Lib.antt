@@ -1,0 +1,3 @@
+pub mod Hpsys
+pub mod Lpsys
+pub mod Clocks

@@ -1,0 +1,180 @@
+// rcc/clock_read.rs.
+ghost use mathlib.Core.Path.{_≡_};
+ghost use Prim.Native.Nat.{_≤_};
+ghost use Rattle.head.specs.Word.{byteB, byteC};
+ghost use Rattle.head.specs.Encodable.{Encodable};
+ghost use Rattle.clock_read.specs.Hpsys.{
+  reg,
+  readyReading,
+  dllReading,
+  dividedReading,
+  shiftedReading,
+  sysOf,
+  hclkOf,
+  pclkOf,
+  pclk2Of,
+  usbSource,
+  usbOf,
+  wdtOf,
+  flashOf,
+};
+use clock::Dll;
+use head::Head;
+use time::Reading;
+
+// HXT48 or HRC48 by its ready flag.
+pub fn ready_freq(ready: bool) -> Reading
+    ensures { λ r. ⌜ r ≡ readyReading ready ⌝ }
+{
+    if ready {
+        Reading::At(clock::CLK_HXT48_FREQ)
+    } else {
+        Reading::Unreadable
+    }
+}
+
+// A DLL by its register.
+fn dll_freq(word: u32) -> Reading
+    requires { ⌜ byteC word ≤ 15 ⌝ }
+    ensures { λ r. ⌜ r ≡ dllReading word ⌝ }
+{
+    if head::a(word) != 1 {
+        return Reading::Unreadable;
+    }
+    let dll = Dll {
+        stage: head::c(word) as u8,
+        half: head::b(word) == 1,
+    };
+    Reading::At(dll.freq_hz())
+}
+
+pub fn divide(f: Reading, divider: u8) -> Reading
+    ensures { λ r. ⌜ r ≡ dividedReading f divider ⌝ }
+{
+    let Reading::At(f) = f else {
+        return Reading::Unreadable;
+    };
+    Reading::At(clock::divide(f, divider))
+}
+
+pub fn prescale(f: Reading, exponent: u8) -> Reading
+    ensures { λ r. ⌜ r ≡ shiftedReading f exponent ⌝ }
+{
+    let Reading::At(f) = f else {
+        return Reading::Unreadable;
+    };
+    Reading::At(clock::prescale(f, exponent))
+}
+
+pub fn get_clk_dll1_freq(h: Head) -> Reading
+    requires { ⌜ Encodable h ⌝ }
+    ensures { λ r. ⌜ r ≡ dllReading (reg h 3) ⌝ }
+{
+    dll_freq(h.regs[3])
+}
+
+pub fn get_clk_dll2_freq(h: Head) -> Reading
+    requires { ⌜ Encodable h ⌝ }
+    ensures { λ r. ⌜ r ≡ dllReading (reg h 4) ⌝ }
+{
+    dll_freq(h.regs[4])
+}
+
+pub fn get_clk_sys_freq(h: Head) -> Reading
+    requires { ⌜ Encodable h ⌝ }
+    ensures { λ r. ⌜ r ≡ sysOf h ⌝ }
+{
+    let select = h.regs[1];
+    if select == 0 {
+        return ready_freq(h.hrc48_ready);
+    }
+    if select == 1 {
+        return ready_freq(h.hxt48_ready);
+    }
+    if select == 3 {
+        return get_clk_dll1_freq(h);
+    }
+    Reading::Unreadable
+}
+
+pub fn get_hclk_freq(h: Head) -> Reading
+    requires { ⌜ Encodable h ⌝ }
+    ensures { λ r. ⌜ r ≡ hclkOf h ⌝ }
+{
+    let hdiv = head::a(h.regs[2]) as u8;
+    divide(get_clk_sys_freq(h), hdiv)
+}
+
+pub fn get_pclk_freq(h: Head) -> Reading
+    requires { ⌜ Encodable h ⌝ }
+    ensures { λ r. ⌜ r ≡ pclkOf h ⌝ }
+{
+    let pdiv1 = head::b(h.regs[2]) as u8;
+    prescale(get_hclk_freq(h), pdiv1)
+}
+
+pub fn get_pclk2_freq(h: Head) -> Reading
+    requires { ⌜ Encodable h ⌝ }
+    ensures { λ r. ⌜ r ≡ pclk2Of h ⌝ }
+{
+    let pdiv2 = head::c(h.regs[2]) as u8;
+    prescale(get_hclk_freq(h), pdiv2)
+}
+
+fn usb_source(h: Head) -> Reading
+    requires { ⌜ Encodable h ⌝ }
+    ensures { λ r. ⌜ r ≡ usbSource h ⌝ }
+{
+    let source = h.regs[7];
+    if source == 1 {
+        return get_clk_dll2_freq(h);
+    }
+    get_clk_sys_freq(h)
+}
+
+pub fn get_clk_usb_freq(h: Head) -> Reading
+    requires { ⌜ Encodable h ⌝ }
+    ensures { λ r. ⌜ r ≡ usbOf h ⌝ }
+{
+    let divider = head::c(h.regs[8]) as u8;
+    divide(usb_source(h), divider)
+}
+
+pub fn get_clk_wdt_freq(h: Head) -> Reading
+    ensures { λ r. ⌜ r ≡ wdtOf h ⌝ }
+{
+    let select = h.regs[10];
+    if select == 0 {
+        Reading::At(clock::CLK_LRC10_FREQ)
+    } else {
+        Reading::At(clock::CLK_LRC32_FREQ)
+    }
+}
+
+// A flash clock by its select.
+fn flash_freq(select: u32, h: Head) -> Reading
+    requires { ⌜ Encodable h ⌝ }
+    ensures { λ r. ⌜ r ≡ flashOf select h ⌝ }
+{
+    if select == 1 {
+        return get_clk_dll1_freq(h);
+    }
+    if select == 2 {
+        return get_clk_dll2_freq(h);
+    }
+    Reading::At(clock::CLK_HXT48_FREQ)
+}
+
+pub fn get_clk_mpi1_freq(h: Head) -> Reading
+    requires { ⌜ Encodable h ⌝ }
+    ensures { λ r. ⌜ r ≡ flashOf (byteB (reg h 5)) h ⌝ }
+{
+    flash_freq(head::b(h.regs[5]), h)
+}
+
+pub fn get_clk_mpi2_freq(h: Head) -> Reading
+    requires { ⌜ Encodable h ⌝ }
+    ensures { λ r. ⌜ r ≡ flashOf (byteC (reg h 5)) h ⌝ }
+{
+    flash_freq(head::c(h.regs[5]), h)
+}

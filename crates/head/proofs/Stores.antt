@@ -1,0 +1,59 @@
+-- A store of a value within a register's codes keeps a head encodable, and changes that register only. The blank head is encodable.
+-- Assumes nothing.
+use Prim.Native.Nat.{ℕ, _<_}
+use mathlib.Core.Path.{_≡_, refl, _∙_}
+use mathlib.Core.Bool.{Bool, true, false}
+use native.Mathlib.Omega.{arith}
+use borrow.Author.Tests.{eqb-true, eqb-false}
+use lib.Dec.{eqb}
+use lib.ListN.{length, getD, set, length-set, getD-replicate}
+use lib.Seq.{getD-set-same, getD-set-other}
+use Rattle.head.specs.declared.Head.{Head}
+use Rattle.head.specs.Task.{allOk, distinct}
+use Rattle.head.specs.Codes.{fitsRegister}
+use Rattle.head.specs.Head.{blank, stored}
+use Rattle.head.specs.Encodable.{Encodable}
+use Rattle.head.proofs.Fits.{zero-fits}
+
+pub stored-same : (h : Head) (n v : ℕ) → n < length (h .regs) → getD (stored h n v .regs) n 0 ≡ v
+stored-same h n v l = getD-set-same (h .regs) n v 0 l
+
+pub stored-other : (h : Head) (n v k : ℕ) → (k ≡ n → ⊥) → getD (stored h n v .regs) k 0 ≡ getD (h .regs) k 0
+stored-other h n v k e = getD-set-other (h .regs) n k v 0 e
+
+pub store-encodable : (h : Head) (n v : ℕ) → Encodable h → fitsRegister n v ≡ true → Encodable (stored h n v)
+store-encodable h n v e fits =
+    record {
+      words = length-set (h .regs) n v ∙ e .words;
+      codes = λ k l. at k l (eqb k n) refl;
+      boot = e .boot;
+      wake = e .wake;
+      places = e .places;
+      room = e .room;
+      each = e .each;
+      apart = e .apart;
+      inBytes = e .inBytes;
+      rest = e .rest;
+    }
+  where
+    at : (k : ℕ) → k < 35 → (t : Bool) → eqb k n ≡ t → fitsRegister k (getD (set (h .regs) n v) k 0) ≡ true
+    at k l true q =
+        let same = eqb-true k n q in
+        rw (same, getD-set-same (h .regs) n v 0 (omega (arith, e .words))) fits
+    at k l false q = rw (getD-set-other (h .regs) n k v 0 (eqb-false k n q)) (e .codes k l)
+
+pub blank-encodable : Encodable blank
+unfolding blank allOk distinct
+blank-encodable =
+    record {
+      words = refl;
+      codes = λ n l. rw (getD-replicate {A = ℕ} 35 n 0 0 l) (zero-fits n l);
+      boot = omega arith;
+      wake = omega arith;
+      places = refl;
+      room = omega arith;
+      each = refl;
+      apart = refl;
+      inBytes = λ k l. absurd (omega arith);
+      rest = refl;
+    }

@@ -1,0 +1,12 @@
+-- `head::blank_head` meets its contract: the value made is `blank`. Assumes nothing.
+use mathlib.Core.Path.{refl}
+use Rattle.head.specs.Head.{blank}
+use Rattle.head.proofs.blank_head.Statement.{statement}
+use Rattle.head.proofs.blank_head.Tie as tie
+
+returns : tie.Need-returns
+unfolding blank
+returns c = refl
+
+pub blank-head-spec : {M : Type 1} → statement M
+blank-head-spec = tie.close (tie.spec returns)

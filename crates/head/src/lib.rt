@@ -1,0 +1,207 @@
+// The head record: 34 registers, ready flags and booked tasks, from bytes to a value and back.
+mod codes;
+pub mod registers;
+pub mod tasks;
+
+ghost use mathlib.Core.Path.{_≡_};
+ghost use Prim.Native.Nat.{_≤_, _<_};
+ghost use lib.ListN.{length};
+ghost use Rattle.head.specs.Word.{wordOf, byteA, byteB, byteC};
+ghost use Rattle.head.specs.Items.{laid};
+ghost use Rattle.head.specs.Head.{bufferBytes, countIn, lengthFits, headRefusal, headOf, blank, bit, frontOf, stateOf, written};
+ghost use Rattle.head.specs.Encodable.{Decodes};
+
+// A head's record stands at the front of a buffer of so many bytes.
+pub const BUFFER_BYTES: usize = 255;
+
+pub struct Task {
+    pub id: u8,
+    pub cycles: u32,
+    pub period: u32,
+}
+
+pub struct Head {
+    // Register n at index n, each its 24-bit value; number 0 is unused and 0.
+    pub regs: [u32; 35],
+    pub hxt48_ready: bool,
+    pub hrc48_ready: bool,
+    pub lpsys_hxt48_ready: bool,
+    pub boot_mode: u8,
+    pub wake_count: u8,
+    // The first `count` are booked; those past them are all zero.
+    pub tasks: [Task; 16],
+    pub count: u8,
+}
+
+// What decoding answers: a refusal, 0 for none, and the head, blank on a refusal.
+pub struct Decoded {
+    pub refusal: u8,
+    pub head: Head,
+}
+
+// The word of three bytes.
+pub fn word(a: u32, b: u32, c: u32) -> u32
+    requires { ⌜ (a < 256) × ((b < 256) × (c < 256)) ⌝ }
+    ensures { λ r. ⌜ r ≡ wordOf a b c ⌝ }
+{
+    a * 65536 + (b * 256 + c)
+}
+
+// The three bytes of a word.
+pub fn a(word: u32) -> u32
+    ensures { λ r. ⌜ r ≡ byteA word ⌝ }
+{
+    word / 65536 % 256
+}
+
+pub fn b(word: u32) -> u32
+    ensures { λ r. ⌜ r ≡ byteB word ⌝ }
+{
+    word / 256 % 256
+}
+
+pub fn c(word: u32) -> u32
+    ensures { λ r. ⌜ r ≡ byteC word ⌝ }
+{
+    word % 256
+}
+
+fn wide(x: u8) -> u32
+    ensures { λ r. ⌜ (r ≡ x) × (r < 256) ⌝ }
+{
+    x as u32
+}
+
+// Whether the buffer's length, the task count and the record's length fit each other.
+fn length_fits(buffer: &[u8]) -> bool
+    ensures { λ r. ⌜ r ≡ lengthFits (now (buffer .entry)) ⌝ }
+{
+    if buffer.len() != BUFFER_BYTES {
+        return false;
+    }
+    let count = buffer[110];
+    if 16 < count {
+        return false;
+    }
+    record::two_bytes(buffer[0], buffer[1]) == 109 + 9 * (count as u16)
+}
+
+// The first refusal of a record, 0 where there is none.
+fn refusal(buffer: &[u8]) -> u8
+    ensures { λ r. ⌜ r ≡ headRefusal (now (buffer .entry)) ⌝ }
+{
+    if !length_fits(buffer) {
+        return 1;
+    }
+    if buffer[2] != 1 {
+        return 2;
+    }
+    if !codes::within(buffer) {
+        return 3;
+    }
+    if !tasks::fit(buffer) {
+        return 3;
+    }
+    0
+}
+
+fn blank_head() -> Head
+    ensures { λ r. ⌜ r ≡ blank ⌝ }
+{
+    let none = Task {
+        id: 0,
+        cycles: 0,
+        period: 0,
+    };
+    let regs = [0u32; 35];
+    let tasks = [none; 16];
+    Head {
+        regs,
+        hxt48_ready: false,
+        hrc48_ready: false,
+        lpsys_hxt48_ready: false,
+        boot_mode: 0,
+        wake_count: 0,
+        tasks,
+        count: 0,
+    }
+}
+
+// The head of a record that is not refused.
+fn read(buffer: &[u8]) -> Head
+    requires { ⌜ (length (now buffer) ≡ bufferBytes) × (countIn (now buffer) ≤ 16) ⌝ }
+    ensures { λ r. ⌜ r ≡ headOf (now (buffer .entry)) ⌝ }
+{
+    let regs = registers::read(buffer);
+    let tasks = tasks::read(buffer);
+    Head {
+        regs,
+        hxt48_ready: buffer[105] == 1,
+        hrc48_ready: buffer[106] == 1,
+        lpsys_hxt48_ready: buffer[107] == 1,
+        boot_mode: buffer[108],
+        wake_count: buffer[109],
+        tasks,
+        count: buffer[110],
+    }
+}
+
+// The head at the front of a buffer, or its refusal.
+pub fn decode(buffer: &[u8]) -> Decoded
+    ensures { λ r. ⌜ Decodes (now (buffer .entry)) r ⌝ }
+{
+    let refused = refusal(buffer);
+    if refused != 0 {
+        let head = blank_head();
+        return Decoded {
+            refusal: refused,
+            head,
+        };
+    }
+    let head = read(buffer);
+    Decoded { refusal: 0, head }
+}
+
+// The length and the version.
+fn write_front(count: u8, buffer: &mut [u8])
+    requires { ⌜ (length (now buffer) ≡ bufferBytes) × (count ≤ 16) ⌝ }
+    ensures { λ _. ⌜ now (buffer .exit) ≡ laid 0 (frontOf count) (now (buffer .entry)) ⌝ }
+{
+    let length = 109 + 9 * (count as u16);
+    buffer[0] = (length / 256) as u8;
+    buffer[1] = (length % 256) as u8;
+    buffer[2] = 1;
+}
+
+fn flag(on: bool) -> u8
+    ensures { λ r. ⌜ r ≡ bit on ⌝ }
+{
+    if on { 1 } else { 0 }
+}
+
+// The ready flags, boot mode, wake count and task count.
+fn write_state(head: Head, buffer: &mut [u8])
+    requires { ⌜ length (now buffer) ≡ bufferBytes ⌝ }
+    ensures { λ _. ⌜ now (buffer .exit) ≡ laid 105 (stateOf head) (now (buffer .entry)) ⌝ }
+{
+    buffer[105] = flag(head.hxt48_ready);
+    buffer[106] = flag(head.hrc48_ready);
+    buffer[107] = flag(head.lpsys_hxt48_ready);
+    buffer[108] = head.boot_mode;
+    buffer[109] = head.wake_count;
+    buffer[110] = head.count;
+}
+
+// Writes a head's record at the front of a buffer.
+pub fn encode(head: Head, buffer: &mut [u8])
+    requires { ⌜ (length (now buffer) ≡ bufferBytes) × (head .count ≤ 16) ⌝ }
+    ensures { λ _. ⌜ now (buffer .exit) ≡ written head (now (buffer .entry)) ⌝ }
+{
+    let count = head.count;
+    let regs = head.regs;
+    let tasks = head.tasks;
+    write_front(count, buffer);
+    registers::write(regs, buffer);
+    write_state(head, buffer);
+    tasks::write(tasks, count, buffer);
+}

@@ -1,0 +1,6 @@
+pub mod Reached
+pub mod Stores
+pub mod Delays
+pub mod Polls
+pub mod Flags
+pub mod Replay

@@ -1,0 +1,65 @@
+-- `journal::Machine::store` meets its contract: one entry, and the value in the register, unless the call has ended. Assumes nothing.
+use native.Mathlib.Omega.{arith}
+use mathlib.Core.Path.{refl}
+use Rattle.head.proofs.Fits.{fits-word}
+use Rattle.head.proofs.Stores.{store-encodable}
+use Rattle.journal.specs.Run.{store}
+use Rattle.journal.proofs.Reached.{ran-ended}
+use Rattle.journal.proofs.Stores.{ran-store}
+use borrow.Author.Needs.{needs}
+use Rattle.journal.proofs.Machine.store.Statement.{statement}
+use Rattle.journal.proofs.Machine.store.Tie as tie
+
+returns : tie.Need-returns
+unfolding store
+returns c =
+    (ran-ended _ (c .before .args .self) _ (c .if1 .taken), (record { room = omega arith; encodable = c .before .pre .0 .encodable }, refl))
+
+cast-journal : tie.Need-cast-journal
+cast-journal c = search needs
+
+mul-journal : tie.Need-mul-journal
+mul-journal c = search needs
+
+add-journal : tie.Need-add-journal
+add-journal c = omega (arith, fits-word _ _ (c .before .pre .1 .1))
+
+mul-journal-2 : tie.Need-mul-journal-2
+mul-journal-2 c = search needs
+
+slice-write-journal : tie.Need-slice-write-journal
+slice-write-journal c = search needs
+
+mul-head : tie.Need-mul-head
+mul-head c = search needs
+
+element-write-head : tie.Need-element-write-head
+element-write-head c = search needs
+
+add-t12 : tie.Need-add-t12
+add-t12 c = search needs
+
+same-length : tie.Need-same-length
+same-length c = search needs
+
+returns-2 : tie.Need-returns-2
+returns-2 c = (
+  ran-store (c .before .before .args .self) (c .before .before .args .journal .now) (c .before .before .args .number) (c .before .before .args .value) (c .before .if1 .left) (search needs),
+  (record { room = omega arith; encodable = store-encodable _ _ _ (c .before .before .pre .0 .encodable) (c .before .before .pre .1 .1) }, refl),
+)
+
+pub store-spec : {M : Type 1} → statement M
+store-spec =
+    tie.close
+    (tie.spec
+    returns
+    cast-journal
+    mul-journal
+    add-journal
+    mul-journal-2
+    slice-write-journal
+    mul-head
+    element-write-head
+    add-t12
+    same-length
+    returns-2)

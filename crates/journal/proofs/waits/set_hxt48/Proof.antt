@@ -1,0 +1,17 @@
+-- `journal::waits::set_hxt48` meets its contract: the flag alone changes. Assumes nothing.
+use native.Mathlib.Omega.{arith}
+use mathlib.Core.Path.{refl}
+use Rattle.journal.specs.Run.{withHxt48}
+use Rattle.journal.proofs.Flags.{hxt48-encodable}
+use Rattle.journal.proofs.Reached.{ran-ended, ran-headed}
+use Rattle.journal.proofs.waits.set_hxt48.Statement.{statement}
+use Rattle.journal.proofs.waits.set_hxt48.Tie as tie
+
+returns : tie.Need-returns
+returns c = (λ j. ran-ended _ (c .before .args .m) j (c .if1 .taken), (record { room = omega arith; encodable = c .before .pre }, refl))
+
+returns-2 : tie.Need-returns-2
+returns-2 c = (λ j. ran-headed withHxt48 (c .before .before .args .m) j (c .before .if1 .left), (record { room = omega arith; encodable = hxt48-encodable _ (c .before .before .pre) }, refl))
+
+pub set-hxt48-spec : {M : Type 1} → statement M
+set-hxt48-spec = tie.close (tie.spec returns returns-2)

@@ -1,0 +1,40 @@
+-- The code's state of a running call, and what it means that code does an effect. Assumes nothing.
+use Prim.Native.Nat.{ℕ, _+_, _<_, _≤_}
+use mathlib.Core.Path.{_≡_}
+use mathlib.Core.List.{List, _++_}
+use lib.ListN.{length, drop}
+use Rattle.head.specs.Encodable.{Encodable}
+use Rattle.journal.specs.declared.Machine.{Machine}
+use Rattle.journal.specs.Run.{Run, Effect, Poll, hit, dry}
+
+-- the machine of a run
+abbrev pub machineOf : Run → Machine
+machineOf r = record { head = r .head; at = length (r .entries); taken = r .taken; stop = r .stop }
+
+-- the machine `m` and the journal `j` are where the run `r` is; the journal held `j₀` before the call
+pub record Reached (r : Run) (j₀ : List ℕ) (m : Machine) (j : List ℕ) : Type 0 where
+  pub machine : m ≡ machineOf r
+  pub journal : j ≡ r .entries ++ drop (length (r .entries)) j₀
+
+-- from `m` and `j` the code comes to `m'` and `j'`, as the effect `f` says, wherever the run was
+pub record Ran (f : Effect) (m m' : Machine) (j j' : List ℕ) : Type 0 where
+  pub does : (r : Run) (j₀ : List ℕ) → Reached r j₀ m j → Reached (f r) j₀ m' j'
+
+-- the same of code that is lent no journal
+abbrev pub Quietly : Effect → Machine → Machine → Type 0
+Quietly f m m' = (j : List ℕ) → Ran f m m' j j
+
+-- a machine with room for `k` entries more and a head that its record holds
+pub record Ready (k : ℕ) (m : Machine) (j : List ℕ) : Type 0 where
+  pub room : m .at + k ≤ length j
+  pub encodable : Encodable (m .head)
+
+-- at most `k` entries were written, and the head is still one that its record holds
+pub record Kept (k : ℕ) (m m' : Machine) : Type 0 where
+  pub room : m' .at ≤ m .at + k
+  pub encodable : Encodable (m' .head)
+
+-- `r` is the place of the first ready answer of `a` from `from` on, or past the last, by what polling the rest finds
+abbrev pub Found : List ℕ → ℕ → ℕ → Poll → Type 0
+Found a from r (hit n) = (r < length a) × (from + n ≡ r + 1)
+Found a from r dry = r ≡ length a

@@ -1,0 +1,158 @@
+-- A call on a head as it runs, and the three things that it can do: store, delay, wait. Assumes nothing.
+use Prim.Native.Nat.{ℕ, _+_, _*_, _/_, _%_}
+use mathlib.Core.Bool.{Bool, true, false, cond}
+use mathlib.Core.List.{List, [], _∷_, _++_}
+use lib.Dec.{eqb, leb, ltb}
+use lib.ListN.{length, drop, set}
+use Rattle.time.specs.declared.Reading.{Reading}
+use Rattle.time.specs.declared.Reading.the-variants.{At, Unreadable}
+use Rattle.head.specs.declared.Head.{Head}
+use Rattle.head.specs.Head.{stored}
+use Rattle.clock_read.specs.Hpsys.{hclkOf}
+
+-- the entries written so far, the head as it is now, the answers taken, and 0 or the refusal that ended the call
+pub record Run : Type 0 where
+  pub entries : List ℕ
+  pub head : Head
+  pub taken : ℕ
+  pub stop : ℕ
+
+-- what a part of a call does
+abbrev pub Effect : Type 0
+Effect = Run → Run
+
+-- a call as it begins on a head
+abbrev pub begin : Head → Run
+begin h = record { entries = []; head = h; taken = 0; stop = 0 }
+
+-- one effect, then another
+infixl 20 _▸_
+abbrev pub _▸_ : Effect → Effect → Effect
+(f ▸ g) r = g (f r)
+
+-- nothing
+abbrev pub idle : Effect
+idle r = r
+
+-- a call that has ended does nothing more
+unfoldable pub going : Effect → Effect
+going f r = cond (eqb (r .stop) 0) (f r) r
+
+-- the refusal `n` ends the call, with `taken` answers taken in all; stores made so far are kept
+abbrev pub ended : ℕ → ℕ → Effect
+ended n taken r = record { entries = r .entries; head = r .head; taken = taken; stop = n }
+
+-- "An entry is number × 16,777,216 plus the 24-bit value"
+abbrev pub entry : ℕ → ℕ → ℕ
+entry number value = number * 16777216 + value
+
+-- one entry more
+abbrev pub wrote : ℕ → Effect
+wrote e r = record { entries = r .entries ++ (e ∷ []); head = r .head; taken = r .taken; stop = r .stop }
+
+-- another head
+abbrev pub headed : Head → Effect
+headed h r = record { entries = r .entries; head = h; taken = r .taken; stop = r .stop }
+
+-- a store of `v` in register `n`: "one Rust `modify` or `write_value` is one store"
+unfoldable pub store : ℕ → ℕ → Effect
+store n v = going (λ (r : Run). wrote (entry n v) (headed (stored (r .head) n v) r))
+
+-- a delay in cycles of the core, rounded down, lib.rs `cortex_m_blocking_delay_us`: "Number 48 is a delay, its value the cycles"
+abbrev pub cycles : ℕ → ℕ → ℕ
+cycles hz us = hz * us / 1000000
+
+-- "34 HCLK unreadable at a delay"
+abbrev pub delayed : Reading → ℕ → Effect
+delayed (At f) us r = wrote (entry 48 (cycles (f .0) us)) r
+delayed Unreadable us r = ended 34 (r .taken) r
+
+unfoldable pub delay : ℕ → Effect
+delay us = going (λ (r : Run). delayed (hclkOf (r .head)) us r)
+
+-- what polling finds in a list of answers: how many are taken up to the first that is ready and with it, or that none is ready;
+-- "Answers are 16-bit words lent by the caller ..: 0 not ready, else ready"
+pub data Poll : Type 0 where
+  hit : ℕ → Poll
+  dry : Poll
+
+abbrev pub more : Poll → Poll
+more (hit n) = hit (n + 1)
+more dry = dry
+
+unfoldable pub poll : List ℕ → Poll
+poll [] = dry
+poll (x ∷ a) = cond (eqb x 0) (more (poll a)) (hit 1)
+
+-- "Number 49 is a wait that ended: a is its kind .., b and c the answers taken"; "36 answers run out in a wait", "one that 36 cuts short
+-- has no entry", and all answers are taken then
+abbrev pub waited : ℕ → List ℕ → Poll → Effect
+waited kind a (hit n) r = record {
+  entries = r .entries ++ (entry 49 (kind * 65536 + n) ∷ []);
+  head = r .head;
+  taken = r .taken + n;
+  stop = r .stop;
+}
+waited kind a dry r = ended 36 (length a) r
+
+-- a wait of some kind, with the answers `a` lent to the call
+unfoldable pub wait : ℕ → List ℕ → Effect
+wait kind a = going (λ (r : Run). waited kind a (poll (drop (r .taken) a)) r)
+
+-- the HXT48 ready flag, and that of LPSYS, set to 1
+abbrev pub withHxt48 : Head → Head
+withHxt48 h = record {
+  regs = h .regs;
+  «hxt48_ready» = true;
+  «hrc48_ready» = h .«hrc48_ready»;
+  «lpsys_hxt48_ready» = h .«lpsys_hxt48_ready»;
+  «boot_mode» = h .«boot_mode»;
+  «wake_count» = h .«wake_count»;
+  tasks = h .tasks;
+  count = h .count;
+}
+
+abbrev pub hxt48On : Effect
+hxt48On r = headed (withHxt48 (r .head)) r
+
+abbrev pub withLpsysHxt48 : Head → Head
+withLpsysHxt48 h = record {
+  regs = h .regs;
+  «hxt48_ready» = h .«hxt48_ready»;
+  «hrc48_ready» = h .«hrc48_ready»;
+  «lpsys_hxt48_ready» = true;
+  «boot_mode» = h .«boot_mode»;
+  «wake_count» = h .«wake_count»;
+  tasks = h .tasks;
+  count = h .count;
+}
+
+abbrev pub lpsysHxt48On : Effect
+lpsysHxt48On r = headed (withLpsysHxt48 (r .head)) r
+
+-- "Kinds 1 and 2 take none when the ready flag is already 1, and set it."
+unfoldable pub waitHxt48 : List ℕ → Effect
+waitHxt48 a r =
+    cond (r .head .«hxt48_ready») (going (wrote (entry 49 65536)) r) ((wait 1 a ▸ going hxt48On) r)
+
+unfoldable pub waitLpsysHxt48 : List ℕ → Effect
+waitLpsysHxt48 a r =
+    cond (r .head .«lpsys_hxt48_ready») (going (wrote (entry 49 131072)) r) ((wait 2 a ▸ going lpsysHxt48On) r)
+
+-- kind 5: "a finished measurement takes two more, hxt_cnt and hrc_cnt", its count "a measurement's two included"; "36 answers run out in
+-- a .. measurement"
+abbrev pub measured : List ℕ → Poll → Effect
+measured a (hit n) r = cond (leb (r .taken + n + 2) (length a)) (waited 5 a (hit (n + 2)) r) (ended 36 (length a) r)
+measured a dry r = ended 36 (length a) r
+
+unfoldable pub measure : List ℕ → Effect
+measure a = going (λ (r : Run). measured a (poll (drop (r .taken) a)) r)
+
+-- a store's entry put into the registers; a delay's and a wait's change nothing
+unfoldable pub applied : List ℕ → ℕ → List ℕ
+applied regs e = cond (ltb (e / 16777216) 35) (set regs (e / 16777216) (e % 16777216)) regs
+
+-- "the head a call got with the stores of its first entries .. put in": the registers of a moment
+unfoldable pub replayed : List ℕ → List ℕ → List ℕ
+replayed regs [] = regs
+replayed regs (e ∷ es) = replayed (applied regs e) es

@@ -1,0 +1,92 @@
+// A running call: stores, delays and waits over the head by value, each writing its entry into the lent journal.
+mod waits;
+
+ghost use mathlib.Core.Path.{_≡_};
+ghost use mathlib.Core.Bool.{true};
+ghost use Prim.Native.Nat.{_<_, _≤_};
+ghost use lib.ListN.{length};
+ghost use Rattle.head.specs.Codes.{fitsRegister};
+ghost use Rattle.journal.specs.Run.{cycles as cyclesOf, store, delay};
+ghost use Rattle.journal.specs.Machine.{Ran, Ready, Kept};
+use head::Head;
+use time::Hertz;
+use time::Reading;
+pub use waits::measure;
+pub use waits::wait_for;
+pub use waits::wait_hxt48;
+pub use waits::wait_lpsys_hxt48;
+
+pub struct Machine {
+    pub head: Head,
+    // The entries written.
+    pub at: usize,
+    // The answers taken.
+    pub taken: usize,
+    // 0, or the refusal that ended the call: nothing more is stored then.
+    pub stop: u8,
+}
+
+impl Machine {
+    pub fn store(self, journal: &mut [u32], number: usize, value: u32) -> Machine
+        requires { ⌜ Ready 1 self (now journal) ⌝ }
+        requires { ⌜ (number < 35) × (fitsRegister number value ≡ true) ⌝ }
+        ensures { λ r. ⌜ Ran (store number value) self r (now (journal .entry)) (now (journal .exit)) ⌝ }
+        ensures { λ r. ⌜ Kept 1 self r ⌝ }
+        ensures { λ r. ⌜ r .taken ≡ self .taken ⌝ }
+    {
+        let stop = self.stop;
+        if stop != 0 {
+            return self;
+        }
+        let at = self.at;
+        journal[at] = (number as u32) * 16777216 + value;
+        let mut head = self.head;
+        head.regs[number] = value;
+        Machine {
+            head,
+            at: at + 1,
+            taken: self.taken,
+            stop: 0,
+        }
+    }
+}
+
+// The cycles of a delay, rounded down.
+fn cycles(f: Hertz, us: u32) -> u32
+    requires { ⌜ (f .0 ≤ 384000000) × (us ≤ 1000) ⌝ }
+    ensures { λ r. ⌜ (r ≡ cyclesOf (f .0) us) × (r ≤ 384000) ⌝ }
+{
+    let hertz = f.0;
+    ((hertz as u64) * (us as u64) / 1_000_000) as u32
+}
+
+// lib.rs `cortex_m_blocking_delay_us`: writes the delay's cycles, or ends the call with 34 where HCLK does not read.
+pub fn delay_us(m: Machine, journal: &mut [u32], us: u32) -> Machine
+    requires { ⌜ Ready 1 m (now journal) ⌝ }
+    requires { ⌜ us ≤ 1000 ⌝ }
+    ensures { λ r. ⌜ Ran (delay us) m r (now (journal .entry)) (now (journal .exit)) ⌝ }
+    ensures { λ r. ⌜ Kept 1 m r ⌝ }
+    ensures { λ r. ⌜ r .taken ≡ m .taken ⌝ }
+{
+    let stop = m.stop;
+    if stop != 0 {
+        return m;
+    }
+    let head = m.head;
+    let at = m.at;
+    let Reading::At(f) = clock_read::get_hclk_freq(head) else {
+        return Machine {
+            head,
+            at,
+            taken: m.taken,
+            stop: 34,
+        };
+    };
+    journal[at] = 48 * 16777216 + cycles(f, us);
+    Machine {
+        head,
+        at: at + 1,
+        taken: m.taken,
+        stop: 0,
+    }
+}

@@ -1,0 +1,22 @@
+//! `oracle compare`: librikkovan.a against the original code.
+
+use crate::tally::Tally;
+use crate::{compare_head, compare_plan};
+
+/// How much is compared.
+#[derive(Clone, Copy, Default)]
+pub struct Extent {
+    /// A bounded part.
+    pub quick: bool,
+    /// Random plans, and random heads, go on for so many seconds at least.
+    pub seconds: u64,
+}
+
+/// Compares all groups and gives the number of differences.
+pub fn run(extent: Extent) -> u64 {
+    let mut total = Tally::default();
+    total.add(&compare_plan::run(extent));
+    total.add(&compare_head::run(extent));
+    total.print("total");
+    total.different
+}
