@@ -70,6 +70,7 @@ stage 'list of crates' every_crate_is_listed
 stage 'rt ci' rt_ci
 stage 'library' part lib
 stage 'tests from C' part test-c
+stage 'tests of lpset' tests/lpset/run.sh
 compare
 say "all passed ($SECONDS s)"
 tail -n 1 "$log"

@@ -12,7 +12,7 @@ use Rattle.head.specs.declared.Head.{Head}
 use Rattle.journal.specs.declared.Machine.{Machine}
 use Rattle.journal.specs.Run.{Run, Effect, begin}
 use Rattle.call.specs.declared.Answer.{Answer}
-use Rattle.call.specs.declared.Opened.{Opened}
+use Rattle.call.specs.declared.Admitted.{Admitted}
 
 -- "17 journal under 128 words; .. Calls test 17, 18, the head's 1 to 3, then the rest." Of a call that is lent no answers:
 abbrev pub journalTests : List ℕ → List ℕ → List ℕ
@@ -60,11 +60,11 @@ pub record Answers (o : Result) (r : Answer) (b' j' : List ℕ) : Type 0 where
   pub journal : j' ≡ o .journal
 
 -- what the first tests of a call leave: the refusal, and where there is none a head that its record holds
-pub record Opens (refusal : ℕ) (b : List ℕ) (r : Opened) : Type 0 where
-  pub refusal-is : r .refusal ≡ refusal
-  pub head-is : refusal ≡ 0 → r .head ≡ headOf b
-  pub encodable : refusal ≡ 0 → Encodable (r .head)
-  pub bytes : refusal ≡ 0 → length b ≡ bufferBytes
+pub record Admits (tests : List ℕ) (b : List ℕ) (r : Admitted) : Type 0 where
+  pub refusal-is : r .refusal ≡ firstOf tests
+  pub head-is : firstOf tests ≡ 0 → r .head ≡ headOf b
+  pub encodable : firstOf tests ≡ 0 → Encodable (r .head)
+  pub bytes : firstOf tests ≡ 0 → length b ≡ bufferBytes
 
 -- the answer of an ended call, with its head written back
 pub record Finishes (m : Machine) (value : ℕ) (r : Answer) (b b' : List ℕ) : Type 0 where

@@ -1,10 +1,9 @@
 // Calls on a head's bytes: the tests that they share, and the way from the bytes to a running call and back.
 ghost use mathlib.Core.Path.{_≡_};
 ghost use lib.ListN.{length};
-ghost use Rattle.record.specs.Refusals.{firstOf};
 ghost use Rattle.head.specs.Encodable.{Encodable};
 ghost use Rattle.head.specs.Head.{bufferBytes};
-ghost use Rattle.call.specs.Call.{journalTests, answersTests, Opens, Finishes};
+ghost use Rattle.call.specs.Call.{journalTests, answersTests, Admits, Finishes};
 ghost use Rattle.journal.specs.Run.{begin};
 ghost use Rattle.journal.specs.Machine.{machineOf};
 use head::Head;
@@ -22,39 +21,39 @@ pub struct Answer {
     pub taken: usize,
 }
 
-pub struct Opened {
+pub struct Admitted {
     pub refusal: u8,
     pub head: Head,
 }
 
 // 17, then the head's 1 to 3.
-pub fn open(buffer: &[u8], journal: &[u32]) -> Opened
-    ensures { λ r. ⌜ Opens (firstOf (journalTests (now (buffer .entry)) (now (journal .entry)))) (now (buffer .entry)) r ⌝ }
+pub fn admit(buffer: &[u8], journal: &[u32]) -> Admitted
+    ensures { λ r. ⌜ Admits (journalTests (now (buffer .entry)) (now (journal .entry))) (now (buffer .entry)) r ⌝ }
 {
     let decoded = head::decode(buffer);
     let head = decoded.head;
     if journal.len() < JOURNAL_WORDS {
-        return Opened { refusal: 17, head };
+        return Admitted { refusal: 17, head };
     }
-    Opened {
+    Admitted {
         refusal: decoded.refusal,
         head,
     }
 }
 
 // 17, 18, then the head's 1 to 3.
-pub fn open_with_answers(buffer: &[u8], journal: &[u32], answers: &[u16]) -> Opened
-    ensures { λ r. ⌜ Opens (firstOf (answersTests (now (buffer .entry)) (now (journal .entry)) (now (answers .entry)))) (now (buffer .entry)) r ⌝ }
+pub fn admit_with_answers(buffer: &[u8], journal: &[u32], answers: &[u16]) -> Admitted
+    ensures { λ r. ⌜ Admits (answersTests (now (buffer .entry)) (now (journal .entry)) (now (answers .entry))) (now (buffer .entry)) r ⌝ }
 {
     let decoded = head::decode(buffer);
     let head = decoded.head;
     if journal.len() < JOURNAL_WORDS {
-        return Opened { refusal: 17, head };
+        return Admitted { refusal: 17, head };
     }
     if MOST_ANSWERS < answers.len() {
-        return Opened { refusal: 18, head };
+        return Admitted { refusal: 18, head };
     }
-    Opened {
+    Admitted {
         refusal: decoded.refusal,
         head,
     }

@@ -12,6 +12,9 @@ use Rattle.dvfs.specs.declared.hpsys.HpsysDvfsMode.the-variants.{D0, D1, S0, S1
 use Rattle.dvfs.specs.declared.hpsys.HpsysModeFound.the-variants.{Mode, OutOfRange}
 use Rattle.dvfs.specs.Hpsys.{modeOf}
 use Rattle.journal.specs.Run.{cycles}
+use Rattle.head.specs.declared.Head.{Head}
+use Rattle.clock_lpsys.specs.Effects.{dividerFor}
+use Rattle.clock_lpsys.proofs.Laws.{source-48}
 use Rattle.plan.specs.Plan.{settled, coded, recordRefusal, dllOf, planOf, decoded, encoded, legal, defaultRecord}
 use Rattle.verdict.specs.Verdict.{sysHz, hclkHz, pclk1Hz, pclk2Hz, usbHz, coreOnAbsentDll1, coreOnDbl96, flashOnAbsentDll, usbOnAbsentDll2, usbNot60, dll1CoreTooSlow, hclkTooFast, pclk1TooFast, pclk2TooFast, dll2TooFast, planRefusal, usbDivider, targetOf, verdictOf, verdict, numberOf}
 
@@ -59,3 +62,13 @@ mode-cases = (refl, refl, refl, refl, refl, refl, refl, refl)
 -- "250 us at 240 MHz: 60,000 cycles."
 delay-case : cycles 240000000 250 ≡ 60000
 delay-case = refl
+
+-- "LPSYS 48, 25, 24, 7, 1 give dividers 0, 1, 2, 6, 48.": whatever the head, since its source gives 48 MHz or does not read
+lpsys-cases : (h : Head) →
+    (dividerFor 48 h ≡ 0)
+    × (dividerFor 25 h ≡ 1)
+    × (dividerFor 24 h ≡ 2)
+    × (dividerFor 7 h ≡ 6)
+    × (dividerFor 1 h ≡ 48)
+unfolding dividerFor
+lpsys-cases h = (rw (source-48 h), rw (source-48 h), rw (source-48 h), rw (source-48 h), rw (source-48 h))

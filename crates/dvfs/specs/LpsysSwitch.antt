@@ -23,7 +23,6 @@ lpsysFirst S D = lpsysS2dFirst
 lpsysFirst S S = idle
 
 abbrev pub lpsysSecond : LpsysDvfsMode → LpsysDvfsMode → Effect
-lpsysSecond D D = idle
-lpsysSecond D S = idle
+lpsysSecond D target = idle
 lpsysSecond S D = lpsysS2dSecond
 lpsysSecond S S = idle

@@ -1,12 +1,12 @@
 -- Laws of `firstOf`. Assumes nothing.
 use Prim.Native.Nat.{ℕ, zero, suc}
-use mathlib.Core.Path.{_≡_, refl, sym}
+use mathlib.Core.Path.{_≡_, refl, sym, _∙_}
 use mathlib.Core.Bool.{Bool, true, false, cond}
-use mathlib.Core.List.{List, [], _∷_}
+use mathlib.Core.List.{List, [], _∷_, _++_}
 use native.Mathlib.Omega.{arith}
 use lib.Dec.{eqb}
 use lib.ListN.{getD}
-use borrow.Author.Tests.{eqb-true, eqb-false}
+use borrow.Author.Tests.{eqb-true, eqb-false, eq-eqb, ne-eqb}
 use Rattle.record.specs.Refusals.{refuse, firstOf}
 
 -- no test, no refusal; a test that finds no fault leaves the answer to the rest
@@ -47,3 +47,21 @@ only-test n = by (eqb n 0) refl
     by : (t : Bool) → eqb n 0 ≡ t → cond t 0 n ≡ n
     by true e = sym (eqb-true n 0 e)
     by false e = refl
+
+-- the tests of one list, then those of another
+pub first-append : (ms ns : List ℕ) → firstOf (ms ++ ns) ≡ cond (eqb (firstOf ms) 0) (firstOf ns) (firstOf ms)
+unfolding firstOf
+first-append [] ns = refl
+first-append (m ∷ ms) ns = by (eqb m 0) refl (first-append ms ns)
+  where
+    by : (t : Bool) → eqb m 0 ≡ t → firstOf (ms ++ ns) ≡ cond (eqb (firstOf ms) 0) (firstOf ns) (firstOf ms) →
+        cond t (firstOf (ms ++ ns)) m ≡ cond (eqb (cond t (firstOf ms) m) 0) (firstOf ns) (cond t (firstOf ms) m)
+    by true e h = h
+    by false e h = rw e
+
+-- where the first list refuses, and where it does not
+pub first-refuses : (ms ns : List ℕ) → (firstOf ms ≡ 0 → ⊥) → firstOf (ms ++ ns) ≡ firstOf ms
+first-refuses ms ns e = first-append ms ns ∙ rw (ne-eqb (firstOf ms) 0 e)
+
+pub first-passes : (ms ns : List ℕ) → firstOf ms ≡ 0 → firstOf (ms ++ ns) ≡ firstOf ns
+first-passes ms ns e = first-append ms ns ∙ rw (eq-eqb (firstOf ms) 0 e)

@@ -1,6 +1,8 @@
 // What C calls, as include/rikkovan.h declares it.
+mod lpsys;
+mod word;
+
 ghost use mathlib.Core.Path.{_≡_};
-ghost use Prim.Native.Nat.{_≤_};
 ghost use Rattle.head.specs.Head.{headRefusal, headOf};
 ghost use Rattle.clock_read.specs.Clocks.{clocksOf, lpsysOf, unlessRefused};
 ghost use Rattle.verdict.specs.Verdict.{verdict, numberOf};
@@ -24,7 +26,7 @@ pub extern "C" fn rikkovan_read_clocks(head: &[u8], clocks: &mut [u32; 15]) -> u
     ensures { λ r. ⌜ r ≡ packed (headRefusal (now (head .entry))) 0 0 0 ⌝ }
     ensures { λ _. ⌜ now (clocks .exit) ≡ unlessRefused (now (head .entry)) (clocksOf (headOf (now (head .entry)))) (now (clocks .entry)) ⌝ }
 {
-    pack(clock_read::read_clocks(head, clocks), 0, 0, 0)
+    word::pack(clock_read::read_clocks(head, clocks), 0, 0, 0)
 }
 
 // The six frequencies of LPSYS, 0 for none; on a refusal `lpsys` stays.
@@ -33,17 +35,5 @@ pub extern "C" fn rikkovan_read_lpsys(head: &[u8], lpsys: &mut [u32; 6]) -> u64
     ensures { λ r. ⌜ r ≡ packed (headRefusal (now (head .entry))) 0 0 0 ⌝ }
     ensures { λ _. ⌜ now (lpsys .exit) ≡ unlessRefused (now (head .entry)) (lpsysOf (headOf (now (head .entry)))) (now (lpsys .entry)) ⌝ }
 {
-    pack(clock_read::read_lpsys(head, lpsys), 0, 0, 0)
-}
-
-// The word that a call on a head answers.
-fn pack(refusal: u8, value: u32, entries: u16, taken: u16) -> u64
-    requires { ⌜ taken ≤ 4096 ⌝ }
-    ensures { λ r. ⌜ r ≡ packed refusal value entries taken ⌝ }
-{
-    let counts = (entries as u64) * 4294967296 + (taken as u64) * 281474976710656;
-    if refusal == 0 {
-        return value as u64 + counts;
-    }
-    9223372036854775808 + refusal as u64 + counts
+    word::pack(clock_read::read_lpsys(head, lpsys), 0, 0, 0)
 }

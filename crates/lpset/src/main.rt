@@ -1,0 +1,39 @@
+// Runs an LPSYS request, the second argument in whole MHz, on the head in the file that the first
+// argument names, and writes the journal's entries, the answer and the LPSYS HCLK that the request
+// leaves to standard output. The file stays as it is.
+mod arguments;
+mod hex;
+mod report;
+mod request;
+
+ghost use mathlib.Core.Path.{_≡_};
+ghost use Rattle.lpset.specs.Hclk.{hclkIn};
+use time::MaybeHertz;
+use time::Megahertz;
+
+// LPSYS HCLK of the head in a buffer, and none where the head is refused.
+fn lpsys_hclk(buffer: &[u8]) -> MaybeHertz
+    ensures { λ r. ⌜ r .0 ≡ hclkIn (now (buffer .entry)) ⌝ }
+{
+    let mut lpsys = [0u32; 6];
+    clock_read::read_lpsys(buffer, &mut lpsys);
+    MaybeHertz(lpsys[1])
+}
+
+fn set(buffer: &mut [u8], freq: Megahertz) {
+    let mut journal = [0u32; call::JOURNAL_WORDS];
+    let answer = clock_lpsys::config_lpsys_hclk_mhz(buffer, freq, &mut journal);
+    let entries = answer.entries;
+    report::steps(&journal[..entries]);
+    report::result(answer.refusal, lpsys_hclk(buffer));
+}
+
+fn main() {
+    if os::arg_count() < 2 {
+        report::usage();
+        return;
+    }
+    let mut buffer = io::buffer();
+    let count = arguments::head(&mut buffer);
+    set(&mut buffer[..count], arguments::request());
+}

@@ -1,0 +1,25 @@
+-- `rikkovan::lpsys::rikkovan_config_lpsys_hclk_mhz` meets its contract: the call's answer, packed. Assumes nothing.
+use Rattle.rikkovan.proofs.Giving.{gives}
+use borrow.Author.Needs.{needs}
+use Rattle.rikkovan.proofs.lpsys.rikkovan_config_lpsys_hclk_mhz.Statement.{statement}
+use Rattle.rikkovan.proofs.lpsys.rikkovan_config_lpsys_hclk_mhz.Tie as tie
+
+config-lpsys-hclk-mhz-requires : tie.Need-config-lpsys-hclk-mhz-requires
+config-lpsys-hclk-mhz-requires c κs = search needs
+
+of-answer-requires : tie.Need-of-answer-requires
+of-answer-requires c κs = search needs
+
+same-length : tie.Need-same-length
+same-length c = search needs
+
+same-length-2 : tie.Need-same-length-2
+same-length-2 c = search needs
+
+returns : tie.Need-returns
+returns c = gives (c .before .before .before .before .before .config-lpsys-hclk-mhz .ensures) (c .of-answer .ensures)
+
+pub rikkovan-config-lpsys-hclk-mhz-spec : {M : Type 1} → statement M
+rikkovan-config-lpsys-hclk-mhz-spec =
+    tie.close
+    (tie.spec config-lpsys-hclk-mhz-requires of-answer-requires same-length same-length-2 returns)
