@@ -204,8 +204,8 @@ uint64_t rikkovan_plan_check(const uint8_t *plan, size_t plan_len);
  *   bits 48 to 62  the number of answers taken
  *   bit 63         1 where the call is refused
  *
- * The value of a reading is 0, and a reading writes no entry and takes no answer. So the word of a
- * reading is 0 where it is done.
+ * The value is 0 where nothing else is said of the call. A reading writes no entry and takes no
+ * answer, so its word is 0 where it is done.
  *
  * A head is refused, by the first of these tests that fails, with
  *
@@ -313,10 +313,202 @@ uint64_t rikkovan_read_lpsys(const uint8_t *head, size_t head_len,
                              uint32_t lpsys[RIKKOVAN_LPSYS_CLOCKS]);
 
 /*
+ * The journal
+ * ===========
+ *
+ * A call that changes a head makes its stores in the lent buffer, and writes each store and each
+ * delay as an entry into a lent journal, in the order in which they come. Entries go to the front
+ * of the journal; the words past the last one keep what they held. An entry is
+ *
+ *   number * 2^24 + value
+ *
+ * where number and value are
+ *
+ *   1 to 34   a register, and what it holds after the store: a * 65,536 + b * 256 + c
+ *   48        a delay, and its length in core cycles: microseconds times the HCLK of that moment
+ *             in Hz, divided by 1,000,000, rounded down
+ *
+ * A store that does not change the register has its entry all the same.
+ *
+ * Such a call makes its tests in this order, and the first that fails refuses it: the length of the
+ * journal, the head (1, 2, 3), then the call's own. RIKKOVAN_REFUSED_HCLK_UNREADABLE comes up at a
+ * delay, after the stores before it: they stay in head and journal, and the word counts their
+ * entries. Every other refusal leaves head and journal as they were, and counts no entries.
+ *
+ * Of a head, a call changes just what its comment says, and no byte past the record.
+ */
+#define RIKKOVAN_JOURNAL_WORDS 128 /* the fewest words of a journal */
+#define RIKKOVAN_ENTRY_DELAY 48    /* the number of a delay */
+
+#define RIKKOVAN_REFUSED_JOURNAL 17         /* journal_len is below 128 */
+#define RIKKOVAN_REFUSED_HCLK_UNREADABLE 34 /* there is a delay, and HCLK reads as none */
+
+/* The number of an entry: a register, or RIKKOVAN_ENTRY_DELAY. */
+static inline uint32_t rikkovan_entry_number(uint32_t entry)
+{
+    return entry >> 24;
+}
+
+/* The value of an entry. */
+static inline uint32_t rikkovan_entry_value(uint32_t entry)
+{
+    return entry & 0xFFFFFF;
+}
+
+/*
+ * LPSYS
+ * =====
+ *
+ * The low-power system runs on 48 MHz, divided by its hdiv1, where 0 divides by 1. Above 24 MHz it
+ * needs supply S.
+ */
+#define RIKKOVAN_LPSYS_HRC48 0
+#define RIKKOVAN_LPSYS_HXT48 1
+#define RIKKOVAN_LPSYS_SUPPLY_D 0
+#define RIKKOVAN_LPSYS_SUPPLY_S 1
+
+#define RIKKOVAN_REFUSED_LPSYS_REQUEST 15 /* freq_mhz is 0 or above 48 */
+
+/*
+ * Sets the LPSYS HCLK to a frequency, and its supply with it.
+ *
+ *   head         the buffer with the record
+ *   head_len     the number of bytes at head
+ *   freq_mhz     the frequency in MHz, 1 to 48
+ *   journal      gets the entries, at most 4
+ *   journal_len  the number of words at journal, 128 or more
+ *
+ * hdiv1 becomes 48 / freq_mhz rounded down, and 0 for 48 MHz. So HCLK can be above the request: 25
+ * to 47 MHz give 48. The stores depend on the LPSYS HCLK before the call, and not on the supply. An
+ * LPSYS HCLK that reads as none counts as 48 MHz: a request above 24 MHz then leaves the supply as
+ * it is.
+ *
+ *   before and request both above, or both at most 24 MHz
+ *             LPSYS_CFGR
+ *   upwards   LPSYS_VOUT 8, LPSYS_SUPPLY S, a delay of 250 us, LPSYS_CFGR
+ *   downwards LPSYS_LDO 6, LPSYS_CFGR, LPSYS_TIMING 0x000162, LPSYS_SUPPLY D
+ *
+ * LPSYS_CFGR keeps its pdiv1 and pdiv2.
+ *
+ * Refusals: RIKKOVAN_REFUSED_JOURNAL, the head's, RIKKOVAN_REFUSED_LPSYS_REQUEST, and upwards
+ * RIKKOVAN_REFUSED_HCLK_UNREADABLE, which keeps the two stores before the delay.
+ */
+uint64_t rikkovan_config_lpsys_hclk_mhz(uint8_t *head, size_t head_len, uint32_t freq_mhz,
+                                        uint32_t *journal, size_t journal_len);
+
+#define RIKKOVAN_REFUSED_LPSYS_HCLK_UNREADABLE 43 /* the LPSYS HCLK reads as none */
+
+/*
+ * Brings the LPSYS HCLK down to 24 MHz where it is above, as a request of 24 MHz does. Else it
+ * changes nothing.
+ *
+ *   head, head_len, journal, journal_len  as above; at most 4 entries
+ *
+ * The value is the LPSYS HCLK before the call, in Hz.
+ *
+ * Refusals: RIKKOVAN_REFUSED_JOURNAL, the head's, RIKKOVAN_REFUSED_LPSYS_HCLK_UNREADABLE.
+ */
+uint64_t rikkovan_ensure_safe_lcpu_frequency(uint8_t *head, size_t head_len, uint32_t *journal,
+                                             size_t journal_len);
+
+/*
+ * Sets fields of LPSYS, with one store each.
+ *
+ *   set_lpsys_hdiv          LPSYS_CFGR: hdiv1, any; pdiv1 and pdiv2 stay
+ *   set_lpsys_div           LPSYS_CFGR: hdiv1, any; pdiv1 and pdiv2, 0 to 7
+ *   config_lpsys_mac_clock  LPSYS_MAC: macdiv and macfreq, any
+ *   select_lpsys_sysclk     LPSYS_SYSCLK: RIKKOVAN_LPSYS_HRC48 or RIKKOVAN_LPSYS_HXT48
+ *   select_lpsys_peri       LPSYS_PERI: the same
+ *
+ * Refusals: RIKKOVAN_REFUSED_JOURNAL, the head's, and RIKKOVAN_REFUSED_CODE for a pdiv1 or pdiv2
+ * above 7 or a source above 1.
+ */
+uint64_t rikkovan_set_lpsys_hdiv(uint8_t *head, size_t head_len, uint8_t hdiv, uint32_t *journal,
+                                 size_t journal_len);
+uint64_t rikkovan_set_lpsys_div(uint8_t *head, size_t head_len, uint8_t hdiv, uint8_t pdiv1,
+                                uint8_t pdiv2, uint32_t *journal, size_t journal_len);
+uint64_t rikkovan_config_lpsys_mac_clock(uint8_t *head, size_t head_len, uint8_t macdiv,
+                                         uint8_t macfreq, uint32_t *journal, size_t journal_len);
+uint64_t rikkovan_select_lpsys_sysclk(uint8_t *head, size_t head_len, uint8_t source,
+                                      uint32_t *journal, size_t journal_len);
+uint64_t rikkovan_select_lpsys_peri(uint8_t *head, size_t head_len, uint8_t source,
+                                    uint32_t *journal, size_t journal_len);
+
+/*
+ * Cancels one wake: the wake count goes down by 1, from 0 to 255. Where it was 1, HP2LP_REQUEST is
+ * stored as 0; else nothing is stored.
+ *
+ *   head, head_len, journal, journal_len  as above; at most 1 entry
+ *
+ * Refusals: RIKKOVAN_REFUSED_JOURNAL, the head's.
+ */
+uint64_t rikkovan_cancel_lcpu_active_request(uint8_t *head, size_t head_len, uint32_t *journal,
+                                             size_t journal_len);
+
+/*
+ * The answers
+ * ===========
+ *
+ * A call that waits for the chip is lent answers, each the reading of one poll: 0 for not ready,
+ * any other for ready. A wait takes them in turn, up to the first that is ready, and the next wait
+ * goes on behind it. A wait that ended is an entry of number 49 whose value is
+ *
+ *   kind * 65,536 + the number of answers that this wait took
+ *
+ * The length of the answers is tested after that of the journal, before the head. If the answers
+ * run out, RIKKOVAN_REFUSED_ANSWERS_RAN_OUT keeps what was done so far, as
+ * RIKKOVAN_REFUSED_HCLK_UNREADABLE does. The wait has no entry then, and all answers count as
+ * taken.
+ */
+#define RIKKOVAN_MOST_ANSWERS 4096 /* the most answers that may be lent */
+#define RIKKOVAN_ENTRY_WAIT 49     /* the number of a wait that ended */
+
+/* The kinds of waits. */
+#define RIKKOVAN_WAIT_HXT48 1
+#define RIKKOVAN_WAIT_LPSYS_HXT48 2
+#define RIKKOVAN_WAIT_LPSYS_ACTIVE 6
+
+#define RIKKOVAN_REFUSED_ANSWERS 18         /* answers_len is above 4,096 */
+#define RIKKOVAN_REFUSED_ANSWERS_RAN_OUT 36 /* no answer is left, and the wait has not ended */
+
+/*
+ * Wakes the core of LPSYS: stores HP2LP_REQUEST as 1; a delay of 230 us and a wait of kind
+ * RIKKOVAN_WAIT_LPSYS_ACTIVE; a delay of 30 us and another such wait; then the wake count goes up
+ * by 1, from 255 to 0.
+ *
+ *   head, head_len, journal, journal_len  as above; at most 5 entries
+ *   answers                               the answers; they are only read
+ *   answers_len                           their number, at most 4,096
+ *
+ * Refusals: RIKKOVAN_REFUSED_JOURNAL, RIKKOVAN_REFUSED_ANSWERS, the head's,
+ * RIKKOVAN_REFUSED_HCLK_UNREADABLE and RIKKOVAN_REFUSED_ANSWERS_RAN_OUT. A refusal leaves the wake
+ * count as it was.
+ */
+uint64_t rikkovan_wake_lcpu(uint8_t *head, size_t head_len, uint32_t *journal, size_t journal_len,
+                            const uint16_t *answers, size_t answers_len);
+
+/*
+ * Makes HXT48 ready for both systems: where its ready flag is 0, stores HXT48_REQUEST as 1, and
+ * after a wait of kind RIKKOVAN_WAIT_HXT48 the flag is 1. Then the same with the flag of LPSYS,
+ * LPSYS_HXT48_REQUEST and RIKKOVAN_WAIT_LPSYS_HXT48. A flag that is 1 takes no store and no answer.
+ *
+ *   head, head_len, journal, journal_len  as above; at most 4 entries
+ *   answers                               the answers; they are only read
+ *   answers_len                           their number, at most 4,096
+ *
+ * Refusals: RIKKOVAN_REFUSED_JOURNAL, RIKKOVAN_REFUSED_ANSWERS, the head's and
+ * RIKKOVAN_REFUSED_ANSWERS_RAN_OUT, which keeps a flag that was set before it.
+ */
+uint64_t rikkovan_ensure_hxt48_ready(uint8_t *head, size_t head_len, uint32_t *journal,
+                                     size_t journal_len, const uint16_t *answers,
+                                     size_t answers_len);
+
+/*
  * A refusal number in words: one line of text in static storage, never NULL.
  *
  * Numbers 1 to 18 refuse what a call was given, and 31 to 43 the state of the head. The plan check
- * answers 1 to 14 and a reading 1 to 3; the others belong to calls that are not in this header yet.
+ * answers 1 to 14 and a reading 1 to 3; of each other call its comment names them. The rest belong
+ * to calls that are not in this header yet.
  * For the word of a call on a head: rikkovan_refusal_text(rikkovan_refusal(word)).
  */
 static inline const char *rikkovan_refusal_text(uint64_t number)

@@ -7,7 +7,7 @@ use crate::heads::{
 };
 use crate::lent::Read;
 use crate::plans::STAGES;
-use crate::tally::{Groups, Tally};
+use crate::tally::{Groups, Tally, hex};
 use sifli::head::{MOST_TASKS, at};
 use sifli::random::Random;
 use std::time::{Duration, Instant};
@@ -27,7 +27,7 @@ pub fn run(extent: Extent) -> Tally {
     groups.group("LPSYS", |tally| lpsys(tally, quick));
     compare_damaged::run(&mut groups, quick);
     groups.group("random heads", |tally| random_heads(tally, extent));
-    groups.finish(3)
+    groups.finish(&[0, 1, 2, 3])
 }
 
 /// Both calls on one buffer, with the memory lent to them before and after.
@@ -37,12 +37,12 @@ pub fn compare(tally: &mut Tally, buffer: &[u8]) {
         Ok(original) => {
             tally.count(original.answer());
             if original != ours {
-                tally.differ(buffer, original, ours);
+                tally.differ(hex(buffer), original, ours);
             }
         }
         Err(text) => {
             tally.count(0);
-            tally.differ(buffer, text, ours);
+            tally.differ(hex(buffer), text, ours);
         }
     }
 }

@@ -6,7 +6,7 @@ use crate::plans::{
     LONGEST, Record, STAGES, coded, damaged, default_with, dlls, likely, near_default, of_length,
     put_dll,
 };
-use crate::tally::{Groups, Tally};
+use crate::tally::{Groups, Tally, hex};
 use sifli::plan::{self, DEFAULT, LENGTH, at};
 use sifli::random::Random;
 use std::time::{Duration, Instant};
@@ -25,7 +25,7 @@ pub fn run(extent: Extent) -> Tally {
     groups.group("lengths 0 to 40", lengths);
     groups.group("length fields", length_fields);
     groups.group("random plans", |tally| random_plans(tally, extent));
-    groups.finish(14)
+    groups.finish(&[0, 1, 2, 3, 4, 5, 6, 7, 8, 9, 10, 11, 12, 13, 14])
 }
 
 fn compare(tally: &mut Tally, slice: &[u8]) {
@@ -33,7 +33,7 @@ fn compare(tally: &mut Tally, slice: &[u8]) {
     let ours = ffi::plan_check(slice);
     tally.count(original);
     if original != ours {
-        tally.differ(slice, original, ours);
+        tally.differ(hex(slice), original, ours);
     }
 }
 

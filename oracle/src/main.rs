@@ -15,6 +15,20 @@ mod record_head;
 mod record_plan;
 mod tally;
 
+// What librikkovan.a exports of LPSYS: see the features in Cargo.toml.
+#[cfg(feature = "lpsys-request")]
+mod compare_lpsys;
+#[cfg(feature = "lpsys-request")]
+mod ffi_lpsys;
+#[cfg(feature = "lpsys-request")]
+mod lpsys;
+#[cfg(feature = "lpsys-request")]
+mod lpsys_inputs;
+#[cfg(feature = "lpsys-request")]
+mod ran;
+#[cfg(feature = "lpsys-request")]
+mod record_lpsys;
+
 use compare::Extent;
 use std::env;
 use std::path::Path;
@@ -25,11 +39,12 @@ usage: oracle compare [--quick] [--seconds N]
        oracle record DIR
        oracle bench
 
-compare  the plan check and the readings of librikkovan.a against the original;
-         exit status 1 on a difference. --quick: a bounded part. --seconds N:
-         random plans, and random heads, go on for N seconds at least.
-record   writes DIR/plans.txt and DIR/heads.txt: plans and heads in hex and the
-         original's answers.
+compare  the plan check, the readings and the calls of LPSYS of librikkovan.a
+         against the original; exit status 1 on a difference. --quick: a bounded
+         part. --seconds N: random plans, random heads and random calls go on for
+         N seconds at least each.
+record   writes DIR/plans.txt, DIR/heads.txt and DIR/lpsys.txt: plans, heads and
+         calls in hex and the original's answers.
 bench    nanoseconds per plan check and per reading of both.";
 
 fn main() -> ExitCode {

@@ -1,63 +1,97 @@
-//! `oracle record`: plans and heads with the original's answers, for a program
-//! that replays them. The same files each time.
+//! `oracle record`: plans, heads and calls with the original's answers, for a
+//! program that replays them. The same files each time.
 
-use crate::tally::hex;
+use crate::tally::{ANSWERS, hex};
 use crate::{record_head, record_plan};
 use std::collections::HashSet;
 use std::fs;
 use std::io;
 use std::path::Path;
 
-/// Every answer is there at least this often.
+#[cfg(feature = "lpsys-request")]
+use crate::record_lpsys;
+
+/// Every answer of plans and heads is there at least this often.
 const FEWEST: usize = 20;
 
-/// The original's answer to some bytes: 0 or the refusal number, and as text.
-type Answer = fn(&[u8]) -> (u64, String);
-
-/// Inputs, each once, in the order they were added.
-pub struct List {
-    answer: Answer,
-    seen: HashSet<Vec<u8>>,
+/// The lines of a file: each input once, in the order they were added.
+pub struct Lines {
+    seen: HashSet<String>,
     text: String,
-    answers: [usize; 15],
+    answers: [usize; ANSWERS],
 }
 
-impl List {
-    pub fn new(answer: Answer) -> Self {
+impl Lines {
+    pub fn new() -> Self {
         Self {
-            answer,
             seen: HashSet::new(),
             text: String::new(),
-            answers: [0; 15],
+            answers: [0; ANSWERS],
         }
     }
 
-    pub fn add(&mut self, slice: &[u8]) {
-        if self.seen.insert(slice.to_vec()) {
-            let (answer, text) = (self.answer)(slice);
+    /// Adds an input with the original's answer: 0 or the refusal number, and
+    /// as text.
+    pub fn add(&mut self, input: String, (answer, text): (u64, String)) {
+        if !self.seen.contains(&input) {
             self.answers[answer as usize] += 1;
-            self.text.push_str(&format!("{} {text}\n", hex(slice)));
+            self.text.push_str(&format!("{input} {text}\n"));
+            self.seen.insert(input);
         }
     }
 
-    /// Writes the file and prints how often each answer up to `largest` is there.
-    fn write(&self, directory: &Path, file: &str, largest: usize) -> io::Result<()> {
-        let answers = &self.answers[..=largest];
-        if let Some(answer) = answers.iter().position(|&count| count < FEWEST) {
+    /// Writes the file and prints how often each of some answers is there,
+    /// which is at least `fewest`.
+    pub fn write(
+        &self,
+        directory: &Path,
+        file: &str,
+        answers: &[usize],
+        fewest: usize,
+    ) -> io::Result<()> {
+        if let Some(answer) = answers.iter().find(|&&index| self.answers[index] < fewest) {
             let text = format!("{file}: too few inputs answer {answer}");
             return Err(io::Error::other(text));
         }
         fs::write(directory.join(file), &self.text)?;
         println!("{file}: {} lines", self.seen.len());
-        for (answer, count) in answers.iter().enumerate() {
-            println!("answer {answer}: {count}");
+        for &answer in answers {
+            println!("answer {answer}: {}", self.answers[answer]);
         }
         Ok(())
+    }
+}
+
+/// The original's answer to some bytes: 0 or the refusal number, and as text.
+type Answer = fn(&[u8]) -> (u64, String);
+
+/// Lines whose input is some bytes.
+pub struct List {
+    answer: Answer,
+    lines: Lines,
+}
+
+impl List {
+    pub fn new(answer: Answer) -> Self {
+        let lines = Lines::new();
+        Self { answer, lines }
+    }
+
+    pub fn add(&mut self, slice: &[u8]) {
+        self.lines.add(hex(slice), (self.answer)(slice));
+    }
+
+    fn write(&self, directory: &Path, file: &str, largest: usize) -> io::Result<()> {
+        let answers: Vec<usize> = (0..=largest).collect();
+        self.lines.write(directory, file, &answers, FEWEST)
     }
 }
 
 pub fn run(directory: &Path) -> io::Result<()> {
     fs::create_dir_all(directory)?;
     record_plan::list().write(directory, "plans.txt", 14)?;
-    record_head::list().write(directory, "heads.txt", 3)
+    record_head::list().write(directory, "heads.txt", 3)?;
+    #[cfg(feature = "lpsys-request")]
+    record_lpsys::write(directory)?;
+    Ok(())
 }

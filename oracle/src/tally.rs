@@ -5,13 +5,25 @@ use std::fmt::Display;
 /// Differing inputs printed per group.
 const SHOWN: u64 = 5;
 
+/// 0 and document 01's refusal numbers.
+pub const ANSWERS: usize = 44;
+
 /// Counts of a group or of several.
-#[derive(Default)]
 pub struct Tally {
     pub compared: u64,
     pub different: u64,
-    /// How often the original gave each answer 0 to 14.
-    answers: [u64; 15],
+    /// How often the original gave each answer.
+    answers: [u64; ANSWERS],
+}
+
+impl Default for Tally {
+    fn default() -> Self {
+        Self {
+            compared: 0,
+            different: 0,
+            answers: [0; ANSWERS],
+        }
+    }
 }
 
 impl Tally {
@@ -25,13 +37,10 @@ impl Tally {
 
     /// Counts and prints an input whose answers differ.
     #[cold]
-    pub fn differ(&mut self, input: &[u8], original: impl Display, ours: impl Display) {
+    pub fn differ(&mut self, input: impl Display, original: impl Display, ours: impl Display) {
         self.different += 1;
         if self.different <= SHOWN {
-            println!(
-                "  differs: {} original {original}, rikkovan {ours}",
-                hex(input)
-            );
+            println!("  differs: {input} original {original}, rikkovan {ours}");
         }
     }
 
@@ -74,11 +83,11 @@ impl Groups {
         self.sum.add(&tally);
     }
 
-    /// Prints how often each answer up to `largest` came up, and gives the sum.
-    pub fn finish(self, largest: usize) -> Tally {
-        let answers: Vec<String> = (0..=largest)
-            .zip(self.sum.answers)
-            .map(|(answer, count)| format!("{answer}: {count}"))
+    /// Prints how often each of some answers came up, and gives the sum.
+    pub fn finish(self, answers: &[usize]) -> Tally {
+        let answers: Vec<String> = answers
+            .iter()
+            .map(|&answer| format!("{answer}: {}", self.sum.answers[answer]))
             .collect();
         println!(
             "{}, answers of the original: {}",

@@ -105,6 +105,7 @@ check 'header as C++11' header_as_cxx c++11
 check 'header as C++17' header_as_cxx c++17
 check 'plan check' calls plan_check
 check 'readings' calls readings
+check 'LPSYS request' calls lpsys_request
 check 'make-plans.sh writes the shipped plans' plans_are_made_again
 check 'daemon on the shipped plans' daemon_on_plans
 check 'daemon on an accepted plan ends with 0' daemon_ends_with 0 examples/plans/default.plan

@@ -4,3 +4,4 @@ pub mod Delays
 pub mod Polls
 pub mod Flags
 pub mod Replay
+pub mod Moments
