@@ -9,14 +9,15 @@ CXX = g++
 CFLAGS = -O2
 STRICT = -Wall -Wextra -pedantic -Werror
 RT = rt
-ORACLE = cargo run --release --quiet --offline --manifest-path oracle/Cargo.toml --
+BUILD_ORACLE = cargo build --release --quiet --offline --manifest-path oracle/Cargo.toml
+ORACLE = oracle/target/release/oracle
 
 LIBRARY = target/staticlib/librikkovan.a
 SOURCES = crates.txt $(shell find crates -name '*.rt' -o -name '*.antt')
 PLANS = $(sort $(wildcard examples/plans/*.plan))
 
 .DELETE_ON_ERROR:
-.PHONY: help lib run test test-c compare compare-quick record bench plans install clean
+.PHONY: help lib run test test-c oracle oracle-library compare compare-quick compare-plans compare-heads record bench plans install clean
 
 help:
 	@echo 'make run            prove the library, then check the example plans through it'
@@ -49,16 +50,29 @@ test:
 test-c: build/daemon
 	@CC='$(CC)' CXX='$(CXX)' tests/c/run.sh
 
-compare: $(LIBRARY)
+oracle-library:
+	$(BUILD_ORACLE) --lib
+
+oracle: $(LIBRARY)
+	$(BUILD_ORACLE)
+
+compare: oracle
 	$(ORACLE) compare
 
-compare-quick: $(LIBRARY)
-	$(ORACLE) compare --quick
+# Two halves that take about the same time, one for each of two cores.
+compare-quick: oracle
+	@$(MAKE) --no-print-directory --output-sync -j2 compare-plans compare-heads
 
-record: $(LIBRARY)
+compare-plans:
+	$(ORACLE) compare --quick --only plan --only config
+
+compare-heads:
+	$(ORACLE) compare --quick --only heads --only lpsys
+
+record: oracle
 	$(ORACLE) record crates/replay/data
 
-bench: $(LIBRARY)
+bench: oracle
 	$(ORACLE) bench
 
 plans:

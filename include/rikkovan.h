@@ -331,9 +331,10 @@ uint64_t rikkovan_read_lpsys(const uint8_t *head, size_t head_len,
  * A store that does not change the register has its entry all the same.
  *
  * Such a call makes its tests in this order, and the first that fails refuses it: the length of the
- * journal, the head (1, 2, 3), then the call's own. RIKKOVAN_REFUSED_HCLK_UNREADABLE comes up at a
- * delay, after the stores before it: they stay in head and journal, and the word counts their
- * entries. Every other refusal leaves head and journal as they were, and counts no entries.
+ * journal, the head (1, 2, 3), then the call's own. Refusals 32 to 36 come up on the way, as
+ * RIKKOVAN_REFUSED_HCLK_UNREADABLE at a delay: the stores before them stay in head and journal, and
+ * the word counts their entries. Every other refusal leaves head and journal as they were, and
+ * counts no entries.
  *
  * Of a head, a call changes just what its comment says, and no byte past the record.
  */
@@ -455,9 +456,12 @@ uint64_t rikkovan_cancel_lcpu_active_request(uint8_t *head, size_t head_len, uin
  *
  *   kind * 65,536 + the number of answers that this wait took
  *
+ * A wait of kind RIKKOVAN_WAIT_CALIBRATION is a measurement: it takes two more answers behind the
+ * one that is ready, hxt_cnt and hrc_cnt, and its number counts them too.
+ *
  * The length of the answers is tested after that of the journal, before the head. If the answers
- * run out, RIKKOVAN_REFUSED_ANSWERS_RAN_OUT keeps what was done so far, as
- * RIKKOVAN_REFUSED_HCLK_UNREADABLE does. The wait has no entry then, and all answers count as
+ * run out in a wait or a measurement, RIKKOVAN_REFUSED_ANSWERS_RAN_OUT keeps what was done so far,
+ * as RIKKOVAN_REFUSED_HCLK_UNREADABLE does. The wait has no entry then, and all answers count as
  * taken.
  */
 #define RIKKOVAN_MOST_ANSWERS 4096 /* the most answers that may be lent */
@@ -466,6 +470,9 @@ uint64_t rikkovan_cancel_lcpu_active_request(uint8_t *head, size_t head_len, uin
 /* The kinds of waits. */
 #define RIKKOVAN_WAIT_HXT48 1
 #define RIKKOVAN_WAIT_LPSYS_HXT48 2
+#define RIKKOVAN_WAIT_DLL1 3
+#define RIKKOVAN_WAIT_DLL2 4
+#define RIKKOVAN_WAIT_CALIBRATION 5
 #define RIKKOVAN_WAIT_LPSYS_ACTIVE 6
 
 #define RIKKOVAN_REFUSED_ANSWERS 18         /* answers_len is above 4,096 */
@@ -502,6 +509,122 @@ uint64_t rikkovan_wake_lcpu(uint8_t *head, size_t head_len, uint32_t *journal, s
 uint64_t rikkovan_ensure_hxt48_ready(uint8_t *head, size_t head_len, uint32_t *journal,
                                      size_t journal_len, const uint16_t *answers,
                                      size_t answers_len);
+
+/*
+ * Calibration, init and reconfigure
+ * =================================
+ *
+ * HRC48 is calibrated against HXT48. A plan is put on a head by rikkovan_init when it boots, and by
+ * rikkovan_reconfigure_sysclk when it runs. The plan's tests come after those of the head, and give
+ * the refusal that rikkovan_plan_check answers.
+ */
+#define RIKKOVAN_REFUSED_HXT48_NOT_READY 31 /* HRC48 is to be calibrated, HXT48 is not ready */
+#define RIKKOVAN_REFUSED_ON_HRC48 32        /* the same in init, with the core on HRC48 */
+#define RIKKOVAN_REFUSED_DIFFERENCE 33      /* the last counts differ by more than 160 */
+#define RIKKOVAN_REFUSED_PRESENT_HCLK 35    /* the HCLK before the change is above 240 MHz */
+
+/*
+ * Calibrates HRC48 against HXT48.
+ *
+ *   head, head_len, journal, journal_len  as above; at most 57 entries
+ *   answers                               the answers; they are only read
+ *   answers_len                           their number, at most 4,096
+ *
+ * Stores HRC_CALIBRATION_LENGTH 0x003FFF and HRC_CLOCK_SELECT 0x000303. Then come up to 11 turns of
+ *
+ *   HRC_TRIM, a delay of 3 us, HRC_CALIBRATION_ON 1, a measurement, HRC_CALIBRATION_ON 0
+ *
+ * The first trim is 512 and the first step 256. After a turn the trim goes up by the step where
+ * hxt_cnt is above hrc_cnt, else down by it, and the step is halved, rounded down. A turn whose
+ * counts differ by less than 64 is the last one, and its trim stays.
+ *
+ * Refusals: RIKKOVAN_REFUSED_JOURNAL, RIKKOVAN_REFUSED_ANSWERS, the head's,
+ * RIKKOVAN_REFUSED_HXT48_NOT_READY; and with what was done so far kept,
+ * RIKKOVAN_REFUSED_HCLK_UNREADABLE, RIKKOVAN_REFUSED_ANSWERS_RAN_OUT, and at the end
+ * RIKKOVAN_REFUSED_DIFFERENCE, where the counts of the last turn differ by more than 160.
+ */
+uint64_t rikkovan_calibrate_hrc48(uint8_t *head, size_t head_len, uint32_t *journal,
+                                  size_t journal_len, const uint16_t *answers, size_t answers_len);
+
+/*
+ * Brings up the clocks of a head that boots, as a plan has them.
+ *
+ *   head, head_len        as above
+ *   plan, plan_len        the plan's record, and the number of bytes at plan; it is only read
+ *   clocks                gets the frequencies of the head after the call, by the index of enum
+ *                         rikkovan_clock; all 0 where the call is refused
+ *   journal, journal_len  as above; at most 88 entries
+ *   answers, answers_len  as above
+ *
+ * It does, in this order:
+ *
+ *   1. where the core is on HXT48, HXT48_REQUEST 1 and a wait of kind RIKKOVAN_WAIT_HXT48, which
+ *      takes no answer where the ready flag is 1, and after which it is; then PERI 1. A head with
+ *      boot mode 3, a standby boot, is done here.
+ *   2. LRC32_ON 1, LOW_POWER 1, DLL_BUFFER_ON 1
+ *   3. where the plan says calibrate: SYSCLK HXT48 if the core is on HRC48, and what
+ *      rikkovan_calibrate_hrc48 does. Its 31 and 33 do not refuse init, but are its value.
+ *   4. HPSYS_CFGR as the plan has it, then what rikkovan_reconfigure_sysclk does
+ *   5. where the plan has DLL2, and DLL2 is not on with that stage and half: FLASH 0; HPBG and DLL2
+ *      as with DLL1 below, and a wait of kind RIKKOVAN_WAIT_DLL2; then FLASH again, where a flash
+ *      that was on DLL2 is back on it, and any other is on the peripheral clock
+ *   6. where the plan says usb: USB_DIVIDER, for 60 MHz, and USB_SOURCE
+ *   7. PERI and LOW_POWER (the watchdog clock) as the plan has them, TICK 0
+ *
+ * The flash clocks of the plan are not stored.
+ *
+ * The value is 0, or RIKKOVAN_REFUSED_HXT48_NOT_READY or RIKKOVAN_REFUSED_DIFFERENCE of step 3.
+ *
+ * Refusals: RIKKOVAN_REFUSED_JOURNAL, RIKKOVAN_REFUSED_ANSWERS, the head's, the plan's (1 to 14);
+ * and with what was done so far kept, RIKKOVAN_REFUSED_ON_HRC48 at step 3, where the core is on
+ * HRC48 and HXT48 is not ready, RIKKOVAN_REFUSED_PRESENT_HCLK at step 4,
+ * RIKKOVAN_REFUSED_HCLK_UNREADABLE and RIKKOVAN_REFUSED_ANSWERS_RAN_OUT.
+ */
+uint64_t rikkovan_init(uint8_t *head, size_t head_len, const uint8_t *plan, size_t plan_len,
+                       uint32_t clocks[RIKKOVAN_CLOCKS], uint32_t *journal, size_t journal_len,
+                       const uint16_t *answers, size_t answers_len);
+
+/*
+ * Sets the core clock of a running head as a plan has it, and its supply with it. Of the plan, core
+ * select, dividers and DLL1 are stored.
+ *
+ *   head, head_len        as above
+ *   plan, plan_len        as above
+ *   clocks                holds the frequencies before the call, and gets those of the head after
+ *                         it; RIKKOVAN_CLOCK_AUD_PLL and RIKKOVAN_CLOCK_AUD_PLL_DIV16 keep what
+ *                         they hold, and where the call is refused all do
+ *   journal, journal_len  as above; at most 14 entries
+ *   answers, answers_len  as above
+ *
+ * An HCLK has a mode: D0 up to 24 MHz, D1 up to 48, S0 up to 144, S1 up to 240. The stores depend
+ * on the mode of the HCLK before the call and on that of the plan's, and not on the supply. An HCLK
+ * that reads as none counts as 48 MHz.
+ *
+ *   same mode   the clock
+ *   D to S      BUCK_VOUT, HPSYS_VOUT, HPSYS_SUPPLY S, a delay of 250 us, HPSYS_TIMING, the clock
+ *   S to S      BUCK_VOUT, HPSYS_VOUT, a delay of 250 us, the clock
+ *   to D        SET_VOUT_M, HPSYS_LDO, the clock, HPSYS_TIMING, HPSYS_SUPPLY D
+ *
+ * The values are those of the plan's mode:
+ *
+ *   D0   SET_VOUT_M 9, HPSYS_LDO 6, HPSYS_TIMING 0x000160
+ *   D1   SET_VOUT_M 10, HPSYS_LDO 8, HPSYS_TIMING 0x001161
+ *   S0   BUCK_VOUT 13, HPSYS_VOUT 11, HPSYS_TIMING 0x003043
+ *   S1   BUCK_VOUT 15, HPSYS_VOUT 13, HPSYS_TIMING 0x003043
+ *
+ * The clock is: where the core is on DLL1, SYSCLK HXT48, or HRC48 if HXT48 is not ready; where the
+ * plan has DLL1, HPBG with hpbg_en on and HPBG with hpbg_vddpsw_en on, each if it is off, DLL1 off,
+ * DLL1 on with the plan's stage and half, a delay of 10 us and a wait of kind RIKKOVAN_WAIT_DLL1;
+ * then HPSYS_CFGR and SYSCLK as the plan has them.
+ *
+ * Refusals: RIKKOVAN_REFUSED_JOURNAL, RIKKOVAN_REFUSED_ANSWERS, the head's, the plan's (1 to 14);
+ * RIKKOVAN_REFUSED_PRESENT_HCLK, which comes before any store; and with what was done so far kept,
+ * RIKKOVAN_REFUSED_HCLK_UNREADABLE and RIKKOVAN_REFUSED_ANSWERS_RAN_OUT.
+ */
+uint64_t rikkovan_reconfigure_sysclk(uint8_t *head, size_t head_len, const uint8_t *plan,
+                                     size_t plan_len, uint32_t clocks[RIKKOVAN_CLOCKS],
+                                     uint32_t *journal, size_t journal_len,
+                                     const uint16_t *answers, size_t answers_len);
 
 /*
  * A refusal number in words: one line of text in static storage, never NULL.

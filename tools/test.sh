@@ -44,19 +44,31 @@ every_crate_is_listed() {
     return "$unlisted"
 }
 
+# Those that run at a time wait for each other, and they take different times: four keep two cores busy.
 rt_ci() {
-    rt ci 2>&1 | tee "$log" || return
+    RT_JOBS=${RT_JOBS:-4} rt ci 2>&1 | tee "$log" || return
     tail -n 1 "$log" | grep -qxE '[0-9]+ passed, 0 failed'
 }
 
+sources=${SIFLI_SRC:-../shared/docs/src}
+
+can_compare() { [ -d "$sources/sifli-hal/src" ] && command -v cargo >/dev/null; }
+
+# The archive, and beside it the part of the oracle that does not link it.
+library() {
+    if can_compare; then
+        part oracle-library &
+    fi
+    part lib && wait
+}
+
 compare() {
-    local sources=${SIFLI_SRC:-../shared/docs/src}
-    if [ ! -d "$sources/sifli-hal/src" ]; then
-        say "comparison with the Rust skipped: no sources at $sources (SIFLI_SRC names their folder)"
-    elif ! command -v cargo >/dev/null; then
-        say 'comparison with the Rust skipped: cargo is missing'
-    else
+    if can_compare; then
         stage 'comparison with the Rust' part compare-quick
+    elif [ ! -d "$sources/sifli-hal/src" ]; then
+        say "comparison with the Rust skipped: no sources at $sources (SIFLI_SRC names their folder)"
+    else
+        say 'comparison with the Rust skipped: cargo is missing'
     fi
 }
 
@@ -68,7 +80,7 @@ need "${CXX:-g++}" 'to test the header from C++'
 
 stage 'list of crates' every_crate_is_listed
 stage 'rt ci' rt_ci
-stage 'library' part lib
+stage 'library' library
 stage 'tests from C' part test-c
 stage 'tests of lpset' tests/lpset/run.sh
 compare

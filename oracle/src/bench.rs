@@ -1,5 +1,7 @@
 //! `oracle bench`: librikkovan.a beside the original.
 
+#[cfg(feature = "config")]
+use crate::bench_config;
 use crate::ffi;
 use crate::heads::{Buffer, random_with_tasks};
 use crate::plans::{self, Record, coded};
@@ -25,18 +27,23 @@ pub fn run() {
     println!("reading of the 15 frequencies");
     read_clocks("(a) heads without tasks", 0);
     read_clocks("(b) heads with 16 tasks", MOST_TASKS);
+    #[cfg(feature = "config")]
+    bench_config::run();
 }
 
 fn plan_check() {
     let accepted = plans(|answer| answer == 0);
     let refused = plans(|answer| answer != 0);
     let builders: Vec<ConfigBuilder> = accepted.iter().map(decoded).collect();
-    let [ours, check, with_decoder, ours_refused] = medians([
-        &mut || each(&accepted, |plan| ffi::plan_check(plan)),
-        &mut || each(&builders, |builder| builder.check()),
-        &mut || each(&accepted, |plan| decoded(plan).check()),
-        &mut || each(&refused, |plan| ffi::plan_check(plan)),
-    ]);
+    let [ours, check, with_decoder, ours_refused] = medians(
+        PASSES * INPUTS,
+        [
+            &mut || each(&accepted, |plan| ffi::plan_check(plan)),
+            &mut || each(&builders, |builder| builder.check()),
+            &mut || each(&accepted, |plan| decoded(plan).check()),
+            &mut || each(&refused, |plan| ffi::plan_check(plan)),
+        ],
+    );
     println!("plan check");
     println!("(a) accepted plans, which do not panic");
     println!("    rikkovan, decodes the 20 bytes and checks: {ours:.1}");
@@ -55,11 +62,14 @@ fn read_clocks(title: &str, tasks: usize) {
     let heads: Vec<Buffer> = (0..INPUTS)
         .map(|_| random_with_tasks(&mut random, tasks))
         .collect();
-    let [ours, in_place, with_decoder] = medians([
-        &mut || each_put(&heads, |_| (), rikkovan_clocks),
-        &mut || each_put(&heads, put, |_| readings::clocks_in_place()),
-        &mut || each_put(&heads, |_| (), decoded_clocks),
-    ]);
+    let [ours, in_place, with_decoder] = medians(
+        PASSES * INPUTS,
+        [
+            &mut || each_put(&heads, |_| (), rikkovan_clocks),
+            &mut || each_put(&heads, put, |_| readings::clocks_in_place()),
+            &mut || each_put(&heads, |_| (), decoded_clocks),
+        ],
+    );
     println!("{title}");
     println!("    rikkovan, decodes the 255 bytes and reads: {ours:.1}");
     println!("    original, reads stand-in registers already in place: {in_place:.1}");
@@ -130,15 +140,15 @@ fn each_put<T>(heads: &[Buffer], put: impl Fn(&Buffer), read: impl Fn(&Buffer) -
     }
 }
 
-/// The median nanoseconds per call of each side; every round runs all sides in
-/// turn.
-fn medians<const N: usize>(mut sides: [&mut dyn FnMut(); N]) -> [f64; N] {
+/// The median nanoseconds per call of each side, which makes so many in a round;
+/// every round runs all sides in turn.
+pub fn medians<const N: usize>(number: usize, mut sides: [&mut dyn FnMut(); N]) -> [f64; N] {
     let mut times = [const { Vec::new() }; N];
     for _ in 0..ROUNDS {
         for (side, times) in sides.iter_mut().zip(&mut times) {
             let began = Instant::now();
             side();
-            times.push(began.elapsed().as_nanos() as f64 / (PASSES * INPUTS) as f64);
+            times.push(began.elapsed().as_nanos() as f64 / number as f64);
         }
     }
     times.map(|mut times: Vec<f64>| {

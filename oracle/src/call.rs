@@ -12,6 +12,9 @@ use std::sync::{Mutex, MutexGuard, PoisonError};
 /// The 15 frequencies of `Clocks` in its order, 0 for none.
 pub type Frequencies = [u32; 15];
 
+/// The most answers that may be lent.
+pub const MOST_ANSWERS: usize = 4096;
+
 /// What a call gave.
 #[derive(Clone, PartialEq, Eq, Debug)]
 pub struct Outcome {
@@ -41,22 +44,20 @@ pub fn admit(buffer: &[u8], journal: Option<usize>, answers: Option<usize>) -> R
     if journal.is_some_and(|length| length < 128) {
         return Err(17);
     }
-    if answers.is_some_and(|length| length > 4096) {
+    if answers.is_some_and(|length| length > MOST_ANSWERS) {
         return Err(18);
     }
     head::decode(buffer)
 }
 
 pub fn calibrate_hrc48(head: &Head, answers: &[u16]) -> Outcome {
-    run(head, answers, || {
-        unsafe { rcc::calibrate_hrc48() }.map(|()| NOTHING)
-    })
+    run(head, answers, || calibrate_in_place().map(|()| NOTHING))
 }
 
 pub fn init(head: &Head, plan: &Plan, answers: &[u16]) -> Outcome {
     match plan.check() {
         0 => run(head, answers, || {
-            unsafe { rcc::init(rcc::Config(plan.builder())) };
+            init_in_place(plan);
             let clocks = frequencies(unsafe { rcc::get_freqs() });
             Ok((swallowed(), clocks))
         }),
@@ -74,7 +75,7 @@ pub fn reconfigure_sysclk(
     let mut outcome = match plan.check() {
         0 => run(head, answers, || {
             unsafe { rcc::set_freqs(clocks(former)) };
-            rcc::reconfigure_sysclk(rcc::Config(plan.builder()));
+            reconfigure_in_place(plan);
             Ok((0, frequencies(unsafe { rcc::get_freqs() })))
         }),
         refusal => refused(head, refusal),
@@ -83,6 +84,21 @@ pub fn reconfigure_sysclk(
         outcome.clocks = *former;
     }
     outcome
+}
+
+/// `calibrate_hrc48` on the head and answers that `world::begin` put in place.
+pub fn calibrate_in_place() -> Result<(), &'static str> {
+    unsafe { rcc::calibrate_hrc48() }
+}
+
+/// `init` with an accepted plan, in place.
+pub fn init_in_place(plan: &Plan) {
+    unsafe { rcc::init(rcc::Config(plan.builder())) };
+}
+
+/// `reconfigure_sysclk` with an accepted plan, in place.
+pub fn reconfigure_in_place(plan: &Plan) {
+    rcc::reconfigure_sysclk(rcc::Config(plan.builder()));
 }
 
 pub fn config_lpsys_hclk_mhz(head: &Head, freq_mhz: u32) -> Outcome {

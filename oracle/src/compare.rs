@@ -3,26 +3,45 @@
 use crate::tally::Tally;
 use crate::{compare_head, compare_plan};
 
+#[cfg(feature = "config")]
+use crate::compare_config;
 #[cfg(feature = "lpsys-request")]
 use crate::compare_lpsys;
+
+/// What is compared, by the names that `--only` takes.
+pub const PARTS: [&str; 4] = ["plan", "heads", "lpsys", "config"];
 
 /// How much is compared.
 #[derive(Clone, Copy, Default)]
 pub struct Extent {
     /// A bounded part.
     pub quick: bool,
-    /// Random plans, random heads, and random calls go on for so many seconds
-    /// at least.
+    /// Random plans, random heads, random calls of LPSYS, and random calls of
+    /// `clock_config.rs` each go on for so many seconds at least.
     pub seconds: u64,
 }
 
-/// Compares all groups and gives the number of differences.
-pub fn run(extent: Extent) -> u64 {
+/// Compares the groups of the named parts, of all where none is named, and gives
+/// the number of differences.
+pub fn run(extent: Extent, only: &[&str]) -> u64 {
     let mut total = Tally::default();
-    total.add(&compare_plan::run(extent));
-    total.add(&compare_head::run(extent));
-    #[cfg(feature = "lpsys-request")]
-    total.add(&compare_lpsys::run(extent));
+    for part in PARTS {
+        if only.is_empty() || only.contains(&part) {
+            total.add(&part_of(part, extent));
+        }
+    }
     total.print("total");
     total.different
+}
+
+fn part_of(part: &str, extent: Extent) -> Tally {
+    match part {
+        "plan" => compare_plan::run(extent),
+        "heads" => compare_head::run(extent),
+        #[cfg(feature = "lpsys-request")]
+        "lpsys" => compare_lpsys::run(extent),
+        #[cfg(feature = "config")]
+        "config" => compare_config::run(extent),
+        _ => Tally::default(),
+    }
 }

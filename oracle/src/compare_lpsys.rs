@@ -2,16 +2,14 @@
 
 use crate::compare::Extent;
 use crate::heads::{
-    DIVIDERS, LONGEST, buffer, busy, damaged, dlls, garbage, plain, put_flags, put_register, task,
-    with, with_tasks,
+    DIVIDERS, LONGEST, buffer, busy, damaged, dlls, few_heads, garbage, plain, put_flags,
+    put_register, task, with, with_tasks,
 };
-use crate::lpsys::{Call, calls};
-use crate::lpsys_inputs::{
-    MOST_ANSWERS, all, answer_lists, answers, arguments, ends, few_heads, few_lists, head, usual,
-};
+use crate::lpsys::{Call, Input, calls};
+use crate::lpsys_inputs::{all, answer_lists, answers, arguments, ends, few_lists, head, usual};
 use crate::plans::STAGES;
-use crate::ran::{Input, Ran};
 use crate::tally::{Groups, Tally};
+use sifli::call::MOST_ANSWERS;
 use sifli::head::at;
 use sifli::random::Random;
 use std::time::{Duration, Instant};
@@ -52,9 +50,9 @@ fn groups(call: &'static Call, extent: Extent) -> Tally {
 
 /// One call on one input. Of a differing one the first answers are printed.
 fn compare(tally: &mut Tally, input: Input) {
-    let ours = Ran::ours(&input);
-    let original = Ran::original(&input);
+    let (ours, original) = (input.ours(), input.original());
     tally.count(original.refusal());
+    tally.note_entries(original.entries().len());
     if original != ours {
         let lent = (input.journal, input.answers.len());
         let answers = &input.answers[..lent.1.min(SHOWN_ANSWERS)];

@@ -1,6 +1,6 @@
 //! Heads and buffers to compare, record and measure.
 
-use sifli::head::{BUFFER, Head, LONGEST_PERIOD, MOST_TASKS, TASK, Task, at};
+use sifli::head::{BUFFER, Head, LARGEST, LONGEST_PERIOD, MOST_TASKS, TASK, Task, at};
 use sifli::random::Random;
 
 pub type Buffer = [u8; BUFFER];
@@ -124,6 +124,25 @@ pub fn dlls(stages: &[u8]) -> Vec<[u8; 3]> {
 
 pub fn put_register(buffer: &mut Buffer, number: usize, bytes: [u8; 3]) {
     buffer[at::a(number)..=at::c(number)].copy_from_slice(&bytes);
+}
+
+/// A few heads: zeros, all oscillators ready, LPSYS at 24 MHz with 16 tasks,
+/// every register byte at its largest.
+#[cfg_attr(
+    not(any(feature = "lpsys-request", feature = "config")),
+    allow(dead_code)
+)]
+pub fn few_heads() -> [Buffer; 4] {
+    let mut largest = buffer(&with_tasks(plain(), 3), 0xEE);
+    for (number, bytes) in (1..).zip(LARGEST) {
+        put_register(&mut largest, number, bytes);
+    }
+    [
+        buffer(&Head::default(), 0),
+        buffer(&plain(), 0xEE),
+        buffer(&with_tasks(busy(), MOST_TASKS), 0),
+        with(largest, &[(at::WAKE_COUNT, 255), (at::BOOT_MODE, 255)]),
+    ]
 }
 
 /// Every byte one of its values; those that readings depend on often at the

@@ -2,8 +2,11 @@
 //! exports.
 
 use crate::ffi_lpsys::{self as ffi, Exported};
+use crate::ran::{Ran, hex_words};
+use crate::tally::hex;
 use sifli::call::{self, Outcome};
 use sifli::head::Head;
+use std::fmt::{self, Display, Formatter};
 use std::iter;
 use std::ops::RangeInclusive;
 
@@ -29,6 +32,52 @@ pub struct Argument {
     pub often: RangeInclusive<u32>,
     /// Those at both sides of each turn.
     pub ends: &'static [u32],
+}
+
+/// What a call is given.
+pub struct Input<'a> {
+    pub call: &'static Call,
+    pub arguments: [u32; 3],
+    pub head: &'a [u8],
+    /// The words of the lent journal.
+    pub journal: usize,
+    pub answers: &'a [u16],
+}
+
+impl Input<'_> {
+    /// By the original code, and for refusals of the input by `call::admit`.
+    pub fn original(&self) -> Ran {
+        let answers = self.call.is_lent_answers.then_some(self.answers.len());
+        let head = call::admit(self.head, Some(self.journal), answers);
+        let outcome = head.map(|head| (self.call.original)(&head, self.arguments, self.answers));
+        self.before().original(outcome)
+    }
+
+    /// By librikkovan.a.
+    pub fn ours(&self) -> Ran {
+        self.before()
+            .ours(|head, _, journal| (self.call.ours)(head, self.arguments, journal, self.answers))
+    }
+
+    fn before(&self) -> Ran {
+        Ran::before(self.head, self.journal, &[])
+    }
+}
+
+/// Name, arguments, head, and answers where they are lent: the front of a line
+/// in the lists.
+impl Display for Input<'_> {
+    fn fmt(&self, f: &mut Formatter) -> fmt::Result {
+        write!(f, "{}", self.call.name)?;
+        for argument in &self.arguments[..self.call.arguments.len()] {
+            write!(f, " {argument}")?;
+        }
+        write!(f, " {}", hex(self.head))?;
+        if self.call.is_lent_answers {
+            write!(f, " {}", hex_words(self.answers, 4))?;
+        }
+        Ok(())
+    }
 }
 
 /// All that are compared and recorded.

@@ -1,12 +1,10 @@
-//! Arguments, answers and heads for the calls of LPSYS.
+//! Arguments, answers and random heads for the calls of LPSYS.
 
-use crate::heads::{Buffer, buffer, busy, likely, plain, put_register, with, with_tasks};
+use crate::heads::{Buffer, likely};
 use crate::lpsys::{Argument, Call};
-use sifli::head::{Head, LARGEST, MOST_TASKS, at};
+use sifli::call::MOST_ANSWERS;
+use sifli::head::at;
 use sifli::random::Random;
-
-/// The most answers that may be lent.
-pub const MOST_ANSWERS: usize = 4096;
 
 /// Answers that end a wait: one and several bits, in either byte.
 const READY: [u16; 6] = [1, 2, 0x0100, 0x8000, 0x00FF, u16::MAX];
@@ -173,21 +171,6 @@ pub fn answers(random: &mut Random, call: &Call) -> Vec<u16> {
             .map(|_| random.word() as u16 >> random.below(17).min(15))
             .collect(),
     }
-}
-
-/// Heads for all arguments: zeros, all oscillators ready, LPSYS at 24 MHz with
-/// 16 tasks, every register byte at its largest.
-pub fn few_heads() -> [Buffer; 4] {
-    let mut largest = buffer(&with_tasks(plain(), 3), 0xEE);
-    for (number, bytes) in (1..).zip(LARGEST) {
-        put_register(&mut largest, number, bytes);
-    }
-    [
-        buffer(&Head::default(), 0),
-        buffer(&plain(), 0xEE),
-        buffer(&with_tasks(busy(), MOST_TASKS), 0),
-        with(largest, &[(at::WAKE_COUNT, 255), (at::BOOT_MODE, 255)]),
-    ]
 }
 
 /// A likely head, its wake count often near 0.

@@ -25,9 +25,24 @@ mod lpsys;
 #[cfg(feature = "lpsys-request")]
 mod lpsys_inputs;
 #[cfg(feature = "lpsys-request")]
-mod ran;
-#[cfg(feature = "lpsys-request")]
 mod record_lpsys;
+
+// What it exports of rcc/clock_config.rs.
+#[cfg(feature = "config")]
+mod bench_config;
+#[cfg(feature = "config")]
+mod compare_config;
+#[cfg(feature = "config")]
+mod config;
+#[cfg(feature = "config")]
+mod config_inputs;
+#[cfg(feature = "config")]
+mod ffi_config;
+#[cfg(feature = "config")]
+mod record_config;
+
+#[cfg(any(feature = "lpsys-request", feature = "config"))]
+mod ran;
 
 use compare::Extent;
 use std::env;
@@ -35,17 +50,18 @@ use std::path::Path;
 use std::process::ExitCode;
 
 const USAGE: &str = "\
-usage: oracle compare [--quick] [--seconds N]
+usage: oracle compare [--quick] [--seconds N] [--only PART]..
        oracle record DIR
        oracle bench
 
-compare  the plan check, the readings and the calls of LPSYS of librikkovan.a
-         against the original; exit status 1 on a difference. --quick: a bounded
-         part. --seconds N: random plans, random heads and random calls go on for
-         N seconds at least each.
-record   writes DIR/plans.txt, DIR/heads.txt and DIR/lpsys.txt: plans, heads and
-         calls in hex and the original's answers.
-bench    nanoseconds per plan check and per reading of both.";
+compare  the plan check, the readings, the calls of LPSYS and those of
+         clock_config.rs of librikkovan.a against the original; exit status 1 on a
+         difference. --quick: a bounded part. --seconds N: random plans, random
+         heads and random calls of either sort go on for N seconds at least each.
+         --only PART: plan, heads, lpsys or config; may be given several times.
+record   writes DIR/plans.txt, DIR/heads.txt, DIR/lpsys.txt and DIR/config.txt:
+         plans, heads and calls in hex and the original's answers.
+bench    nanoseconds per plan check, reading and call of clock_config.rs of both.";
 
 fn main() -> ExitCode {
     sifli::caught::quiet();
@@ -64,6 +80,7 @@ fn main() -> ExitCode {
 
 fn compare(options: &[&str]) -> ExitCode {
     let mut extent = Extent::default();
+    let mut only = Vec::new();
     let mut rest = options;
     loop {
         rest = match rest {
@@ -79,10 +96,14 @@ fn compare(options: &[&str]) -> ExitCode {
                 }
                 Err(_) => return usage(),
             },
+            ["--only", part, rest @ ..] if compare::PARTS.contains(part) => {
+                only.push(*part);
+                rest
+            }
             _ => return usage(),
         };
     }
-    match compare::run(extent) {
+    match compare::run(extent, &only) {
         0 => ExitCode::SUCCESS,
         _ => ExitCode::FAILURE,
     }

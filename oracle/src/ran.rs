@@ -1,22 +1,10 @@
 //! What a call leaves: its answer word and all memory that was lent to it.
 
-use crate::lpsys::Call;
-use crate::tally::hex;
-use sifli::call;
-use std::fmt::{self, Display, Formatter, Write};
+use sifli::call::Outcome;
+use std::fmt::Write;
 
 /// Bit 63 of an answer word.
 const REFUSED: u64 = 1 << 63;
-
-/// What a call is given.
-pub struct Input<'a> {
-    pub call: &'static Call,
-    pub arguments: [u32; 3],
-    pub head: &'a [u8],
-    /// The words of the lent journal.
-    pub journal: usize,
-    pub answers: &'a [u16],
-}
 
 /// The lent memory, each part between two elements that are not lent.
 #[derive(Clone, PartialEq, Eq)]
@@ -24,58 +12,57 @@ pub struct Ran {
     word: u64,
     head: Vec<u8>,
     journal: Vec<u32>,
+    /// None lent to most calls.
+    clocks: Vec<u32>,
 }
 
 impl Ran {
     /// Before the call: no two journal words alike, and none an entry.
-    fn before(input: &Input) -> Self {
-        let mut head = Vec::with_capacity(input.head.len() + 2);
-        head.push(0xA5);
-        head.extend_from_slice(input.head);
-        head.push(0x5A);
+    pub fn before(head: &[u8], journal: usize, clocks: &[u32]) -> Self {
         Self {
             word: 0,
-            head,
-            journal: (0..input.journal as u32 + 2)
+            head: between(0xA5, head, 0x5A),
+            journal: (0..journal as u32 + 2)
                 .map(|index| 0xA5A5_0000 ^ index)
                 .collect(),
+            clocks: between(0xA5A5_A5A5, clocks, 0x5A5A_5A5A),
         }
     }
 
-    /// By the original code, and for refusals of the input by `call::admit`.
-    pub fn original(input: &Input) -> Self {
-        let mut ran = Self::before(input);
-        let answers = input.call.is_lent_answers.then_some(input.answers.len());
-        let head = match call::admit(input.head, Some(input.journal), answers) {
-            Ok(head) => head,
+    /// What the original code leaves, or a refusal of the input.
+    pub fn original(mut self, outcome: Result<Outcome, u64>) -> Self {
+        let outcome = match outcome {
+            Ok(outcome) => outcome,
             Err(refusal) => {
-                ran.word = REFUSED | refusal;
-                return ran;
+                self.word = REFUSED | refusal;
+                return self;
             }
         };
-        let outcome = (input.call.original)(&head, input.arguments, input.answers);
         let value = match outcome.answer {
             0 => u64::from(outcome.value),
             refusal => REFUSED | refusal,
         };
         let entries = outcome.entries.len();
-        ran.word = value | (entries as u64) << 32 | (outcome.taken as u64) << 48;
-        if let [_, buffer @ .., _] = ran.head.as_mut_slice()
-            && let Ok(buffer) = buffer.try_into()
-        {
+        self.word = value | (entries as u64) << 32 | (outcome.taken as u64) << 48;
+        if let Ok(buffer) = lent(&mut self.head).try_into() {
             outcome.head.encode(buffer);
         }
-        ran.journal[1..=entries].copy_from_slice(&outcome.entries);
-        ran
+        self.journal[1..=entries].copy_from_slice(&outcome.entries);
+        if let Ok(clocks) = <&mut [u32; 15]>::try_from(lent(&mut self.clocks)) {
+            *clocks = outcome.clocks;
+        }
+        self
     }
 
-    /// By librikkovan.a.
-    pub fn ours(input: &Input) -> Self {
-        let mut ran = Self::before(input);
-        let head = &mut ran.head[1..=input.head.len()];
-        let journal = &mut ran.journal[1..=input.journal];
-        ran.word = (input.call.ours)(head, input.arguments, journal, input.answers);
-        ran
+    /// What a call of librikkovan.a leaves, which is lent head, clocks and
+    /// journal and gives the answer word.
+    pub fn ours(mut self, call: impl FnOnce(&mut [u8], &mut [u32], &mut [u32]) -> u64) -> Self {
+        self.word = call(
+            lent(&mut self.head),
+            lent(&mut self.clocks),
+            lent(&mut self.journal),
+        );
+        self
     }
 
     /// 0 for done, else the refusal number.
@@ -107,36 +94,54 @@ impl Ran {
         &self.head[1..self.head.len() - 1]
     }
 
-    /// What another has that this one has not: the word, and journal words and
-    /// head bytes by their place.
+    /// What another has that this one has not: the word, and journal words,
+    /// head bytes and clocks by their place.
     pub fn beside(&self, other: &Self) -> String {
         let mut text = format!("word {:016X}", other.word);
-        let journals = self.journal.iter().zip(&other.journal);
-        for (index, (_, word)) in journals.enumerate().filter(|(_, (a, b))| a != b) {
-            let _ = write!(text, " journal[{}] {word:08X}", index as isize - 1);
+        for (place, word) in changes(&self.journal, &other.journal) {
+            let _ = write!(text, " journal[{place}] {word:08X}");
         }
-        let heads = self.head.iter().zip(&other.head);
-        for (index, (_, byte)) in heads.enumerate().filter(|(_, (a, b))| a != b) {
-            let _ = write!(text, " head[{}] {byte:02X}", index as isize - 1);
+        for (place, byte) in changes(&self.head, &other.head) {
+            let _ = write!(text, " head[{place}] {byte:02X}");
+        }
+        for (place, clock) in changes(&self.clocks, &other.clocks) {
+            let _ = write!(text, " clocks[{place}] {clock}");
         }
         text
     }
 }
 
-/// Name, arguments, head, and answers where they are lent: the front of a line
-/// in the lists.
-impl Display for Input<'_> {
-    fn fmt(&self, f: &mut Formatter) -> fmt::Result {
-        write!(f, "{}", self.call.name)?;
-        for argument in &self.arguments[..self.call.arguments.len()] {
-            write!(f, " {argument}")?;
-        }
-        write!(f, " {}", hex(self.head))?;
-        if self.call.is_lent_answers {
-            write!(f, " {}", hex_words(self.answers, 4))?;
-        }
-        Ok(())
+#[cfg(feature = "config")]
+impl Ran {
+    /// The lent clocks after the call.
+    pub fn clocks(&self) -> &[u32] {
+        &self.clocks[1..self.clocks.len() - 1]
     }
+
+    /// Puts none into all lent clocks.
+    pub fn clear_clocks(&mut self) {
+        lent(&mut self.clocks).fill(0);
+    }
+}
+
+fn between<T: Copy>(before: T, lent: &[T], after: T) -> Vec<T> {
+    let mut memory = Vec::with_capacity(lent.len() + 2);
+    memory.push(before);
+    memory.extend_from_slice(lent);
+    memory.push(after);
+    memory
+}
+
+/// All but the first and the last element.
+fn lent<T>(memory: &mut [T]) -> &mut [T] {
+    let last = memory.len() - 1;
+    &mut memory[1..last]
+}
+
+/// Where the second differs from the first, counted from the first lent element.
+fn changes<T: Copy + PartialEq>(first: &[T], second: &[T]) -> impl Iterator<Item = (isize, T)> {
+    let pairs = (-1..).zip(first.iter().zip(second));
+    pairs.filter_map(|(place, (a, b))| (a != b).then_some((place, *b)))
 }
 
 /// Words in upper-case hex of so many digits, `-` for none.

@@ -8,6 +8,8 @@ use std::fs;
 use std::io;
 use std::path::Path;
 
+#[cfg(feature = "config")]
+use crate::record_config;
 #[cfg(feature = "lpsys-request")]
 use crate::record_lpsys;
 
@@ -93,5 +95,7 @@ pub fn run(directory: &Path) -> io::Result<()> {
     record_head::list().write(directory, "heads.txt", 3)?;
     #[cfg(feature = "lpsys-request")]
     record_lpsys::write(directory)?;
+    #[cfg(feature = "config")]
+    record_config::write(directory)?;
     Ok(())
 }

@@ -2,11 +2,12 @@
 //! the original code does.
 
 use crate::heads::{
-    Buffer, DIVIDERS, buffer, busy, damaged, plain, put_flags, put_register, task, with, with_tasks,
+    Buffer, DIVIDERS, buffer, busy, damaged, few_heads, plain, put_flags, put_register, task, with,
+    with_tasks,
 };
-use crate::lpsys::{Call, calls};
-use crate::lpsys_inputs::{answers, arguments, ends, few_heads, few_lists, head, ready_at};
-use crate::ran::{Input, Ran, hex_words};
+use crate::lpsys::{Call, Input, calls};
+use crate::lpsys_inputs::{answers, arguments, ends, few_lists, head, ready_at};
+use crate::ran::hex_words;
 use crate::record::Lines;
 use crate::tally::hex;
 use sifli::head::{BUFFER, at};
@@ -69,7 +70,7 @@ impl List<'_> {
             journal: JOURNAL,
             answers,
         };
-        let ran = Ran::original(&input);
+        let ran = input.original();
         let text = format!(
             "{} {} {} {} {} {}",
             ran.refusal(),

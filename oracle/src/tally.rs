@@ -14,6 +14,10 @@ pub struct Tally {
     pub different: u64,
     /// How often the original gave each answer.
     answers: [u64; ANSWERS],
+    /// The most entries that the original wrote.
+    entries: usize,
+    /// How often a done call had a refusal number, or 0, as its value.
+    values: [u64; ANSWERS],
 }
 
 impl Default for Tally {
@@ -22,6 +26,8 @@ impl Default for Tally {
             compared: 0,
             different: 0,
             answers: [0; ANSWERS],
+            entries: 0,
+            values: [0; ANSWERS],
         }
     }
 }
@@ -33,6 +39,21 @@ impl Tally {
         if let Some(count) = self.answers.get_mut(answer as usize) {
             *count += 1;
         }
+    }
+
+    /// Keeps the largest number of entries.
+    #[cfg_attr(
+        not(any(feature = "lpsys-request", feature = "config")),
+        allow(dead_code)
+    )]
+    pub fn note_entries(&mut self, entries: usize) {
+        self.entries = self.entries.max(entries);
+    }
+
+    /// Counts a value of a done call that is 0 or a refusal number.
+    #[cfg(feature = "config")]
+    pub fn note_value(&mut self, value: u64) {
+        self.values[value as usize] += 1;
     }
 
     /// Counts and prints an input whose answers differ.
@@ -50,6 +71,10 @@ impl Tally {
         for (sum, count) in self.answers.iter_mut().zip(other.answers) {
             *sum += count;
         }
+        for (sum, count) in self.values.iter_mut().zip(other.values) {
+            *sum += count;
+        }
+        self.note_entries(other.entries);
     }
 
     pub fn print(&self, name: &str) {
@@ -83,19 +108,33 @@ impl Groups {
         self.sum.add(&tally);
     }
 
-    /// Prints how often each of some answers came up, and gives the sum.
-    pub fn finish(self, answers: &[usize]) -> Tally {
-        let answers: Vec<String> = answers
-            .iter()
-            .map(|&answer| format!("{answer}: {}", self.sum.answers[answer]))
-            .collect();
+    /// Prints how often each of some answers came up, and the most entries, and
+    /// gives the sum. An answer that never came counts as a difference.
+    pub fn finish(mut self, answers: &[usize]) -> Tally {
+        let (call, sum) = (self.call, &self.sum);
         println!(
-            "{}, answers of the original: {}",
-            self.call,
-            answers.join(", ")
+            "{call}, answers of the original: {}",
+            counted(answers, &sum.answers)
         );
+        if sum.entries > 0 {
+            println!("{call}, most entries: {}", sum.entries);
+        }
+        let values: Vec<usize> = (0..ANSWERS).filter(|&v| sum.values[v] > 0).collect();
+        if !values.is_empty() {
+            println!("{call}, done with: {}", counted(&values, &sum.values));
+        }
+        for answer in answers.iter().filter(|&&a| self.sum.answers[a] == 0) {
+            println!("  differs: {call} never answered {answer}");
+            self.sum.different += 1;
+        }
         self.sum
     }
+}
+
+/// How often each of some numbers was counted.
+fn counted(numbers: &[usize], counts: &[u64; ANSWERS]) -> String {
+    let counted = |&number: &usize| format!("{number}: {}", counts[number]);
+    numbers.iter().map(counted).collect::<Vec<_>>().join(", ")
 }
 
 /// Bytes in upper-case hex, `-` for none.

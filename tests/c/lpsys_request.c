@@ -1,38 +1,9 @@
 /* Tests the LPSYS request. Prints a line for each failure. */
-#include <stdio.h>
-#include <string.h>
-
-#include "rikkovan.h"
-
-#define WORDS RIKKOVAN_JOURNAL_WORDS
-/* What the journal and the head past its record hold before a call. */
-#define BEFORE 0xA5A5A5A5u
-#define PAST 0xEE
-
-#define A(reg) RIKKOVAN_HEAD_A(RIKKOVAN_REG_##reg)
-#define B(reg) RIKKOVAN_HEAD_B(RIKKOVAN_REG_##reg)
-#define C(reg) RIKKOVAN_HEAD_C(RIKKOVAN_REG_##reg)
-#define ENTRY(reg, value) ((uint32_t)RIKKOVAN_REG_##reg << 24 | (value))
-
-static int failures = 0;
-
-static void expect(const char *name, const char *what, uint64_t wanted, uint64_t got)
-{
-    if (wanted == got)
-        return;
-    printf("lpsys_request: %s: %s: wanted %lu, got %lu\n", name, what, (unsigned long)wanted,
-           (unsigned long)got);
-    failures++;
-}
-
-struct edit {
-    int offset;
-    uint8_t value;
-};
+#include "heads.h"
 
 /*
  * A call on the head that make_head makes with some bytes set, what it answers, what it writes into
- * the journal, and the bytes of the head that are set after it. Offset 0 ends a list of edits.
+ * the journal, and the bytes of the head that are set after it.
  */
 struct request_case {
     const char *name;
@@ -45,31 +16,6 @@ struct request_case {
     struct edit after[8];
 };
 
-/* The core on HXT48, all oscillators ready, LPSYS at 48 MHz on supply S, one task, all else 0. */
-static void make_head(uint8_t *head, size_t room)
-{
-    memset(head, PAST, room);
-    memset(head, 0, RIKKOVAN_HEAD_TASK(0));
-    head[RIKKOVAN_HEAD_LENGTH + 1] = 109 + 9;
-    head[RIKKOVAN_HEAD_VERSION] = 1;
-    head[C(SYSCLK)] = RIKKOVAN_CORE_HXT48;
-    head[C(LPSYS_SUPPLY)] = RIKKOVAN_LPSYS_SUPPLY_S;
-    head[RIKKOVAN_HEAD_HXT48_READY] = 1;
-    head[RIKKOVAN_HEAD_HRC48_READY] = 1;
-    head[RIKKOVAN_HEAD_LPSYS_HXT48_READY] = 1;
-    head[RIKKOVAN_HEAD_WAKE_COUNT] = 7;
-    head[RIKKOVAN_HEAD_TASKS] = 1;
-    memcpy(head + RIKKOVAN_HEAD_TASK(0), "\1\0\0\0\2\0\0\0\3", 9);
-}
-
-static void put(uint8_t *head, const struct edit *edit, int most)
-{
-    int k;
-
-    for (k = 0; k < most && edit[k].offset != 0; k++)
-        head[edit[k].offset] = edit[k].value;
-}
-
 static const struct request_case cases[] = {
     {"request 20 at 48 MHz", RIKKOVAN_HEAD_BYTES, WORDS, 20, {{0, 0}}, 0, 4,
      {ENTRY(LPSYS_LDO, 0x000006), ENTRY(LPSYS_CFGR, 0x020000), ENTRY(LPSYS_TIMING, 0x000162),
@@ -78,8 +24,7 @@ static const struct request_case cases[] = {
       {C(LPSYS_SUPPLY), 0}}},
     {"request 48 at 24 MHz, core at 48 MHz", RIKKOVAN_HEAD_BYTES, WORDS, 48,
      {{A(LPSYS_CFGR), 2}, {B(LPSYS_CFGR), 3}, {C(LPSYS_CFGR), 7}, {C(LPSYS_SUPPLY), 0}}, 0, 4,
-     {ENTRY(LPSYS_VOUT, 8), ENTRY(LPSYS_SUPPLY, 1), (uint32_t)RIKKOVAN_ENTRY_DELAY << 24 | 12000,
-      ENTRY(LPSYS_CFGR, 0x000307)},
+     {ENTRY(LPSYS_VOUT, 8), ENTRY(LPSYS_SUPPLY, 1), DELAY(12000), ENTRY(LPSYS_CFGR, 0x000307)},
      {{C(LPSYS_VOUT), 8}, {C(LPSYS_SUPPLY), 1}, {A(LPSYS_CFGR), 0}}},
     {"request 25 at 48 MHz", RIKKOVAN_HEAD_BYTES, WORDS + 72, 25, {{0, 0}}, 0, 1,
      {ENTRY(LPSYS_CFGR, 0x010000)}, {{A(LPSYS_CFGR), 1}}},
@@ -116,31 +61,15 @@ static const struct request_case cases[] = {
      RIKKOVAN_REFUSED_CODE, 0, {0}, {{0, 0}}},
 };
 
-/* Head and journal are lent from their second element on, and end behind what is lent. */
 static void test_case(const struct request_case *one)
 {
-    uint8_t head[300], wanted[300];
-    uint32_t journal[WORDS + 80];
-    uint64_t word;
-    size_t i;
+    struct lent lent;
 
-    head[0] = wanted[0] = PAST;
-    make_head(head + 1, sizeof head - 1);
-    put(head + 1, one->edit, 6);
-    memcpy(wanted, head, sizeof head);
-    put(wanted + 1, one->after, 8);
-    for (i = 0; i < sizeof journal / sizeof journal[0]; i++)
-        journal[i] = BEFORE;
-
-    word = rikkovan_config_lpsys_hclk_mhz(head + 1, one->head_len, one->freq_mhz, journal + 1,
-                                          one->journal_len);
-    expect(one->name, "word",
-           (uint64_t)(one->refusal != 0) << 63 | (uint64_t)one->entries << 32 | one->refusal, word);
-    for (i = 0; i < sizeof head; i++)
-        expect(one->name, "a byte of the head", wanted[i], head[i]);
-    for (i = 0; i < sizeof journal / sizeof journal[0]; i++)
-        expect(one->name, "a word of the journal",
-               i >= 1 && i <= (size_t)one->entries ? one->entry[i - 1] : BEFORE, journal[i]);
+    lend(&lent, one->edit, 6, one->after, 8);
+    expect(one->name, "word", word_of(one->refusal, 0, one->entries, 0),
+           rikkovan_config_lpsys_hclk_mhz(lent.head + 1, one->head_len, one->freq_mhz,
+                                          lent.journal + 1, one->journal_len));
+    expect_left(one->name, &lent, one->entries, one->entry);
 }
 
 /* Every request from 24 MHz on D: the LPSYS HCLK is 48 MHz / (48 / request) after it. */

@@ -9,22 +9,7 @@ cc=${CC:-cc}
 cxx=${CXX:-g++}
 strict=(-Wall -Wextra -pedantic -Werror -O2)
 library=target/staticlib/librikkovan.a
-work=$(mktemp -d)
-trap 'rm -rf "$work"' EXIT
-failures=0
-
-# Runs a command, and shows what it wrote only if it fails.
-check() { # NAME COMMAND..
-    local name=$1
-    shift
-    if "$@" >"$work/log" 2>&1; then
-        echo "test-c: ok: $name"
-    else
-        echo "test-c: FAILED: $name"
-        sed 's/^/    /' "$work/log"
-        failures=$((failures + 1))
-    fi
-}
+. tests/lib.sh test-c || exit
 
 builds_and_runs() { # PROGRAM COMMAND..
     local program=$1
@@ -41,9 +26,12 @@ header_as_cxx() {
         "$cxx" -std="$1" "${strict[@]}" -Iinclude -x c++ tests/c/header.c -x none "$library"
 }
 
+# Runs a test as C99, then as C++.
 calls() { # FILE, without .c
     builds_and_runs "$work/$1" \
-        "$cc" -std=c99 "${strict[@]}" -Iinclude "tests/c/$1.c" "$library"
+        "$cc" -std=c99 "${strict[@]}" -Iinclude "tests/c/$1.c" "$library" &&
+        builds_and_runs "$work/$1-cxx" \
+            "$cxx" -std=c++11 "${strict[@]}" -Iinclude -x c++ "tests/c/$1.c" -x none "$library"
 }
 
 plans_are_made_again() {
@@ -106,6 +94,8 @@ check 'header as C++17' header_as_cxx c++17
 check 'plan check' calls plan_check
 check 'readings' calls readings
 check 'LPSYS request' calls lpsys_request
+check 'the other LPSYS calls' calls lpsys_calls
+check 'calibration, init and reconfigure' calls clock_config
 check 'make-plans.sh writes the shipped plans' plans_are_made_again
 check 'daemon on the shipped plans' daemon_on_plans
 check 'daemon on an accepted plan ends with 0' daemon_ends_with 0 examples/plans/default.plan
@@ -122,7 +112,4 @@ else
     echo 'test-c: skipped: pkg-config (it is not installed)'
 fi
 
-[ "$failures" -eq 0 ] || {
-    echo "test-c: $failures failed"
-    exit 1
-}
+all_passed

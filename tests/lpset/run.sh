@@ -6,22 +6,7 @@ cd "$(dirname "$0")/../.." || exit
 
 lpset=$PWD/target/bin/lpset
 heads=tests/lpset/heads
-work=$(mktemp -d)
-trap 'rm -rf "$work"' EXIT
-failures=0
-
-# Runs a command, and shows what it wrote only if it fails.
-check() { # NAME COMMAND..
-    local name=$1
-    shift
-    if "$@" >"$work/log" 2>&1; then
-        echo "lpset: ok: $name"
-    else
-        echo "lpset: FAILED: $name"
-        sed 's/^/    /' "$work/log"
-        failures=$((failures + 1))
-    fi
-}
+. tests/lib.sh lpset || exit
 
 # Runs the program, and compares what it writes with standard input.
 writes() { # ARGUMENT..
@@ -226,7 +211,4 @@ END
 check 'no argument' says_usage
 check 'the heads stay, and make-heads.sh writes them' heads_are_made_again
 
-[ "$failures" -eq 0 ] || {
-    echo "lpset: $failures failed"
-    exit 1
-}
+all_passed

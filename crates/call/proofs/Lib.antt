@@ -1,2 +1,3 @@
 pub mod Admitting
 pub mod Ending
+pub mod Entries

@@ -50,6 +50,14 @@ finished r value b j = record {
 unfoldable pub performed : ℕ → Effect → ℕ → List ℕ → List ℕ → Result
 performed refusal f value b j = cond (eqb refusal 0) (finished (f (begin (headOf b))) value b j) (refused refusal b j)
 
+-- a call that is lent a journal, with tests of its own after the shared ones
+abbrev pub journalCall : List ℕ → Effect → ℕ → List ℕ → List ℕ → Result
+journalCall tests f value b j = performed (firstOf (journalTests b j ++ tests)) f value b j
+
+-- a call that is also lent answers
+abbrev pub answersCall : Effect → List ℕ → List ℕ → List ℕ → Result
+answersCall f b j a = performed (firstOf (answersTests b j a ++ [])) f 0 b j
+
 -- the code's answer, the buffer and the journal that it leaves are a result's
 pub record Answers (o : Result) (r : Answer) (b' j' : List ℕ) : Type 0 where
   pub refusal : r .refusal ≡ o .refusal

@@ -1,8 +1,10 @@
 -- The starred cases of document 01, each computed from the definitions that the contracts cite. Assumes nothing.
-use Prim.Native.Nat.{ℕ}
+use Prim.Native.Nat.{ℕ, zero, suc, _/_, _%_}
 use mathlib.Core.Path.{_≡_, refl}
-use mathlib.Core.List.{List}
-use lib.ListN.{set}
+use mathlib.Core.Bool.{true, false, cond}
+use mathlib.Core.List.{List, [], _∷_}
+use lib.Dec.{eqb}
+use lib.ListN.{set, replicate}
 use Rattle.record.specs.Bytes.{isWithin}
 use Rattle.record.specs.Refusals.{firstOf}
 use Rattle.clock.specs.Clock.{dllHz, divided, shifted}
@@ -11,12 +13,18 @@ use Rattle.verdict.specs.declared.Verdict.the-variants.{Accepted, Refused}
 use Rattle.dvfs.specs.declared.hpsys.HpsysDvfsMode.the-variants.{D0, D1, S0, S1}
 use Rattle.dvfs.specs.declared.hpsys.HpsysModeFound.the-variants.{Mode, OutOfRange}
 use Rattle.dvfs.specs.Hpsys.{modeOf}
-use Rattle.journal.specs.Run.{cycles}
+use Rattle.journal.specs.Run.{Run, begin, going, store, cycles, delay, poll, measure}
 use Rattle.head.specs.declared.Head.{Head}
-use Rattle.clock_lpsys.specs.Effects.{dividerFor}
-use Rattle.clock_lpsys.proofs.Laws.{source-48}
+use Rattle.lpsys_request.specs.Request.{dividerFor}
+use Rattle.lpsys_request.proofs.Divider.{source-48}
+use Rattle.task.specs.Task.{noTask}
+use Rattle.clock_read.specs.Hpsys.{sysOf, hclkOf}
+use Rattle.calibration.specs.Calibration.{measurement, nextTrim, difference, judged, adjusted, search, calibrate, calibrateHrc48}
 use Rattle.plan.specs.Plan.{settled, coded, recordRefusal, dllOf, planOf, decoded, encoded, legal, defaultRecord}
-use Rattle.verdict.specs.Verdict.{sysHz, hclkHz, pclk1Hz, pclk2Hz, usbHz, coreOnAbsentDll1, coreOnDbl96, flashOnAbsentDll, usbOnAbsentDll2, usbNot60, dll1CoreTooSlow, hclkTooFast, pclk1TooFast, pclk2TooFast, dll2TooFast, planRefusal, usbDivider, targetOf, verdictOf, verdict, numberOf}
+use Rattle.plan_clocks.specs.Clocks.{sysHz, hclkHz, pclk1Hz, pclk2Hz, usbHz, usbDivider, targetOf}
+use Rattle.plan_sources.specs.Sources.{coreOnAbsentDll1, coreOnDbl96, flashOnAbsentDll, usbOnAbsentDll2}
+use Rattle.plan_limits.specs.Limits.{usbNot60, dll1CoreTooSlow, hclkTooFast, pclk1TooFast, pclk2TooFast, dll2TooFast}
+use Rattle.verdict.specs.Verdict.{planRefusal, verdictOf, verdict, numberOf}
 
 -- the number that the plan check answers
 abbrev number : List ℕ → ℕ
@@ -72,3 +80,42 @@ lpsys-cases : (h : Head) →
     × (dividerFor 1 h ≡ 48)
 unfolding dividerFor
 lpsys-cases h = (rw (source-48 h), rw (source-48 h), rw (source-48 h), rw (source-48 h), rw (source-48 h))
+
+-- a head whose core runs on HXT48, which is ready
+abbrev onHxt48 : Head
+onHxt48 =
+    record {
+      regs = set (replicate 35 0) 1 1;
+      «hxt48_ready» = true;
+      «hrc48_ready» = false;
+      «lpsys_hxt48_ready» = false;
+      «boot_mode» = 0;
+      «wake_count» = 0;
+      tasks = replicate 16 noTask;
+      count = 0;
+    }
+
+-- the answers of `n` measurements, each ready at once and with the same counts
+abbrev counted : ℕ → ℕ → ℕ → List ℕ
+counted zero hxt hrc = []
+counted (suc n) hxt hrc = 1 ∷ hxt ∷ hrc ∷ counted n hxt hrc
+
+-- what calibration leaves of that head, and the trims that entries store
+abbrev calibrated : List ℕ → Run
+calibrated a = calibrateHrc48 a (begin onHxt48)
+
+abbrev trims : List ℕ → List ℕ
+trims [] = []
+trims (e ∷ es) = cond (eqb (e / 16777216) 19) (e % 16777216 ∷ trims es) (trims es)
+
+calibration-cases :
+    -- "Difference 63 first: trim 512, one measurement.": of two there, the first
+    (trims (calibrated (counted 2 63 0) .entries) ≡ 512 ∷ [])
+    × (calibrated (counted 2 63 0) .taken ≡ 3)
+    -- "Always 64 with hxt_cnt larger: trims 512, 768, 896, 960, 992, 1008, 1016, 1020, 1022, 1023, 1023."
+    × (trims (calibrated (counted 12 64 0) .entries) ≡ 512 ∷ 768 ∷ 896 ∷ 960 ∷ 992 ∷ 1008 ∷ 1016 ∷ 1020 ∷ 1022 ∷ 1023 ∷ 1023 ∷ [])
+    -- "160 done, 161 is 33."
+    × (calibrated (counted 11 160 0) .stop ≡ 0)
+    × (calibrated (counted 11 161 0) .stop ≡ 33)
+unfolding calibrateHrc48 calibrate search adjusted judged measurement nextTrim difference store delay measure poll going hclkOf sysOf divided
+calibration-cases = (refl, refl, refl, refl, refl)

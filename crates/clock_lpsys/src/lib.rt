@@ -1,17 +1,13 @@
-// rcc/clock_lpsys.rs: the clocks of the low-power system.
-mod request;
-mod setters;
-mod wake;
-
+// rcc/clock_lpsys.rs: the calls that set the clocks of the low-power system. Its readings are in `clock_read`.
 ghost use mathlib.Core.Path.{_≡_};
 ghost use Rattle.call.specs.Call.{Answers};
 ghost use Rattle.clock_lpsys.specs.Calls.{lpsysRequest, safeFrequency, wakeLcpu, cancelLcpu, ensureHxt48};
 use call::Answer;
-pub use setters::config_lpsys_mac_clock;
-pub use setters::select_lpsys_peri;
-pub use setters::select_lpsys_sysclk;
-pub use setters::set_lpsys_div;
-pub use setters::set_lpsys_hdiv;
+pub use lpsys_setters::config_lpsys_mac_clock;
+pub use lpsys_setters::select_lpsys_peri;
+pub use lpsys_setters::select_lpsys_sysclk;
+pub use lpsys_setters::set_lpsys_div;
+pub use lpsys_setters::set_lpsys_hdiv;
 use time::Megahertz;
 use time::Reading;
 
@@ -31,7 +27,7 @@ pub fn config_lpsys_hclk_mhz(buffer: &mut [u8], freq: Megahertz, journal: &mut [
         return Answer::refused(15);
     }
     let head = admitted.head;
-    let m = request::request(call::start(head), journal, mhz);
+    let m = lpsys_request::request(call::start(head), journal, mhz);
     call::finish(m, 0, buffer)
 }
 
@@ -47,7 +43,7 @@ pub fn ensure_safe_lcpu_frequency(buffer: &mut [u8], journal: &mut [u32]) -> Ans
     let Reading::At(f) = clock_read::get_lpsys_hclk_freq(head) else {
         return Answer::refused(43);
     };
-    let m = wake::slow_down(call::start(head), journal);
+    let m = lpsys_request::slow_down(call::start(head), journal);
     call::finish(m, f.0, buffer)
 }
 
@@ -59,7 +55,7 @@ pub fn wake_lcpu(buffer: &mut [u8], journal: &mut [u32], answers: &[u16]) -> Ans
         return Answer::refused(admitted.refusal);
     }
     let head = admitted.head;
-    let m = wake::wake(call::start(head), journal, answers);
+    let m = lpsys_wake::wake(call::start(head), journal, answers);
     call::finish(m, 0, buffer)
 }
 
@@ -71,7 +67,7 @@ pub fn cancel_lcpu_active_request(buffer: &mut [u8], journal: &mut [u32]) -> Ans
         return Answer::refused(admitted.refusal);
     }
     let head = admitted.head;
-    let m = wake::cancel(call::start(head), journal);
+    let m = lpsys_wake::cancel(call::start(head), journal);
     call::finish(m, 0, buffer)
 }
 
@@ -83,6 +79,6 @@ pub fn ensure_hxt48_ready(buffer: &mut [u8], journal: &mut [u32], answers: &[u16
         return Answer::refused(admitted.refusal);
     }
     let head = admitted.head;
-    let m = wake::hxt48_ready(call::start(head), journal, answers);
+    let m = lpsys_wake::hxt48_ready(call::start(head), journal, answers);
     call::finish(m, 0, buffer)
 }

@@ -5,10 +5,10 @@ use native.Mathlib.Omega.{arith}
 use lib.ListN.{getD}
 use Rattle.record.proofs.Bytes.{within-at}
 use Rattle.head.specs.declared.Head.{Head}
-use Rattle.head.specs.Word.{wordBytes, byteC}
-use Rattle.head.specs.Codes.{largest, codesOf}
+use Rattle.register.specs.Word.{wordBytes, byteC}
+use Rattle.register.specs.Codes.{largest, codesOf}
 use Rattle.head.specs.Encodable.{Encodable}
-use Rattle.head.proofs.Fits.{fits-codes}
+use Rattle.register.proofs.Fits.{fits-codes}
 use Rattle.clock_read.specs.Hpsys.{reg}
 
 -- byte `j` of register `n` is at most its largest value

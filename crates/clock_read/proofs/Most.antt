@@ -10,7 +10,7 @@ use Rattle.time.specs.declared.Reading.{Reading}
 use Rattle.time.specs.declared.Reading.the-variants.{At, Unreadable}
 use Rattle.clock.proofs.Laws.{dll-most, divided-most}
 use Rattle.head.specs.declared.Head.{Head}
-use Rattle.head.specs.Word.{byteA, byteB, byteC}
+use Rattle.register.specs.Word.{byteA, byteB, byteC}
 use Rattle.head.specs.Encodable.{Encodable}
 use Rattle.clock_read.specs.Hpsys.{reg, readyReading, dllReading, dividedReading, sysOf, hclkOf}
 use Rattle.clock_read.proofs.Codes.{dll1-stage}

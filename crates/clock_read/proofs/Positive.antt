@@ -12,8 +12,8 @@ use Rattle.time.specs.declared.Reading.the-variants.{At, Unreadable}
 use Rattle.clock.specs.Clock.{dllHz}
 use Rattle.clock.proofs.Laws.{dll-least, divided-least, shifted-least}
 use Rattle.head.specs.declared.Head.{Head}
-use Rattle.head.specs.Word.{wordBytes, byteA, byteB, byteC}
-use Rattle.head.specs.Codes.{largest, codesOf}
+use Rattle.register.specs.Word.{wordBytes, byteA, byteB, byteC}
+use Rattle.register.specs.Codes.{largest, codesOf}
 use Rattle.head.specs.Encodable.{Encodable}
 use Rattle.clock_read.specs.Hpsys.{reg, hertz, readyReading, dllReading, dividedReading, shiftedReading, sysOf, hclkOf, pclkOf, pclk2Of, usbSource, usbOf, wdtOf, flashOf}
 use Rattle.clock_read.specs.Lpsys.{sourceReading, lpsysSysOf, lpsysHclkOf, lpsysPclk1Of, lpsysPclk2Of, lpsysPeriOf, lpsysMacOf}

@@ -6,7 +6,7 @@ use lib.Dec.{eqb}
 use Rattle.time.specs.Frequency.{maybe}
 use Rattle.clock.specs.declared.Clocks.{Clocks}
 use Rattle.head.specs.declared.Head.{Head}
-use Rattle.head.specs.Word.{byteB, byteC}
+use Rattle.register.specs.Word.{byteB, byteC}
 use Rattle.head.specs.Head.{headRefusal, headOf}
 use Rattle.clock_read.specs.Hpsys.{reg, dllReading, sysOf, hclkOf, pclkOf, pclk2Of, usbOf, wdtOf, flashOf}
 use Rattle.clock_read.specs.Lpsys.{lpsysSysOf, lpsysHclkOf, lpsysPclk1Of, lpsysPclk2Of, lpsysPeriOf, lpsysMacOf}

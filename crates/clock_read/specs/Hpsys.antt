@@ -7,7 +7,7 @@ use Rattle.time.specs.declared.Reading.{Reading}
 use Rattle.time.specs.declared.Reading.the-variants.{At, Unreadable}
 use Rattle.clock.specs.Clock.{dllHz, divided, shifted}
 use Rattle.head.specs.declared.Head.{Head}
-use Rattle.head.specs.Word.{byteA, byteB, byteC}
+use Rattle.register.specs.Word.{byteA, byteB, byteC}
 
 -- register `n` of a head; "a value without a letter in c", so such a register's value is its whole word
 abbrev pub reg : Head → ℕ → ℕ

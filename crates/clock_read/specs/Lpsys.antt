@@ -4,7 +4,7 @@ use mathlib.Core.Bool.{cond}
 use lib.Dec.{eqb}
 use Rattle.time.specs.declared.Reading.{Reading}
 use Rattle.head.specs.declared.Head.{Head}
-use Rattle.head.specs.Word.{byteA, byteB, byteC}
+use Rattle.register.specs.Word.{byteA, byteB, byteC}
 use Rattle.clock_read.specs.Hpsys.{reg, readyReading, dividedReading, shiftedReading}
 
 -- 48 MHz of HRC48 (0) or HXT48 (1), where that is ready

@@ -1,7 +1,7 @@
 // rcc/clock_read.rs.
 ghost use mathlib.Core.Path.{_≡_};
 ghost use Prim.Native.Nat.{_≤_};
-ghost use Rattle.head.specs.Word.{byteB, byteC};
+ghost use Rattle.register.specs.Word.{byteB, byteC};
 ghost use Rattle.head.specs.Encodable.{Encodable};
 ghost use Rattle.clock_read.specs.Hpsys.{
   reg,

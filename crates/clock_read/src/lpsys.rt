@@ -1,6 +1,6 @@
 // The readings of rcc/clock_lpsys.rs.
 ghost use mathlib.Core.Path.{_≡_};
-ghost use Rattle.head.specs.Word.{byteA};
+ghost use Rattle.register.specs.Word.{byteA};
 ghost use Rattle.clock_read.specs.Hpsys.{reg};
 ghost use Rattle.clock_read.specs.Lpsys.{
   sourceReading,

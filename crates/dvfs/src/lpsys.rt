@@ -105,7 +105,8 @@ fn switch_lpsys_dvfs_d2s_first(m: Machine, journal: &mut [u32]) -> Machine
     ensures { λ r. ⌜ Kept 3 m r ⌝ }
     ensures { λ r. ⌜ r .taken ≡ m .taken ⌝ }
 {
-    let m = m.store(journal, 29, 8);
+    let row = LpsysDvfsMode::S.get_config();
+    let m = m.store(journal, 29, row.ldo as u32);
     let m = m.store(journal, 28, 1);
     journal::delay_us(m, journal, 250)
 }
@@ -117,7 +118,8 @@ fn switch_lpsys_dvfs_s2d_first(m: Machine, journal: &mut [u32]) -> Machine
     ensures { λ r. ⌜ Kept 1 m r ⌝ }
     ensures { λ r. ⌜ r .taken ≡ m .taken ⌝ }
 {
-    m.store(journal, 30, 6)
+    let config = LpsysDvfsMode::D.get_config();
+    m.store(journal, 30, config.ldo as u32)
 }
 
 // The timing and the supply of D, after the clock has fallen.
@@ -127,7 +129,8 @@ fn switch_lpsys_dvfs_s2d_second(m: Machine, journal: &mut [u32]) -> Machine
     ensures { λ r. ⌜ Kept 2 m r ⌝ }
     ensures { λ r. ⌜ r .taken ≡ m .taken ⌝ }
 {
-    let m = m.store(journal, 31, 0x0162);
+    let row = LpsysDvfsMode::D.get_config();
+    let m = m.store(journal, 31, row.ulpmcr);
     m.store(journal, 28, 0)
 }
 

@@ -8,19 +8,24 @@ use lib.Dec.{eqb}
 use lib.ListN.{length, getD, take, drop, replicate, length-append, length-drop, length-replicate, take-append-drop}
 use lib.Seq.{getD-take, getD-drop, take-add, drop-at, length-take-le, drop-drop}
 use Rattle.record.proofs.Bytes.{within-at}
-use Rattle.head.specs.declared.Task.{Task}
-use Rattle.head.specs.Word.{wordIn, wordBytes, fourIn, Bytes}
-use Rattle.head.specs.Items.{items, joined}
-use Rattle.head.specs.Task.{noTask, taskIn, taskBytes, InBytes}
-use Rattle.head.specs.Codes.{largest, codesOf, fitsRegister}
-use Rattle.head.specs.Head.{firstTask, lengthOf, countIn, tasksIn, registersIn, placesIn, headRefusal, headOf, booked, bit, frontOf, stateOf, recordOf, written}
+use Rattle.task.specs.declared.Task.{Task}
+use Rattle.register.specs.Word.{wordIn, wordBytes}
+use Rattle.task_bytes.specs.Four.{fourIn}
+use Rattle.record.specs.Bytes.{Bytes}
+use Rattle.record.specs.Items.{items, joined}
+use Rattle.task.specs.Task.{noTask, InBytes}
+use Rattle.task_bytes.specs.Tasks.{taskIn, taskBytes, firstTask, countIn, tasksIn, placesIn}
+use Rattle.register.specs.Codes.{largest, codesOf, fitsRegister}
+use Rattle.head.specs.Head.{lengthOf, headRefusal, headOf, booked, bit, frontOf, stateOf, recordOf, written}
+use Rattle.register.specs.Registers.{registersIn}
 use Rattle.head.specs.Encodable.{Encodable}
-use Rattle.head.proofs.Items.{items-length, items-at, of-items, joined-at}
-use Rattle.head.proofs.Within.{within-part}
-use Rattle.head.proofs.Words.{bytes-of-word, bytes-of-task}
-use Rattle.head.proofs.Fits.{codes-fit, zero-fits}
+use Rattle.record.proofs.Items.{items-length, items-at, of-items, joined-at}
+use Rattle.record.proofs.Parts.{within-part}
+use Rattle.register.proofs.Words.{bytes-of-word, word-length}
+use Rattle.task_bytes.proofs.Bytes.{bytes-of-task}
+use Rattle.register.proofs.Fits.{codes-fit, zero-fits}
 use Rattle.head.proofs.Passed.{Passed, passed}
-use Rattle.head.proofs.Parts.{tasks-length, places-booked, word-length}
+use Rattle.task_bytes.proofs.Places.{tasks-length, places-booked}
 
 bytes-drop : (b : List ℕ) (n : ℕ) → Bytes b → Bytes (drop n b)
 bytes-drop b n bytes i = rw getD-drop (bytes (n + i))

@@ -10,18 +10,21 @@ use lib.ListN.{length, getD, take, drop, length-append, length-drop, take-append
 use lib.Seq.{take-append-add, getD-drop, length-take-le, getD-take, drop-at, drop-drop}
 use Rattle.record.specs.Bytes.{twoBytes, isWithin}
 use Rattle.head.specs.declared.Head.{Head}
-use Rattle.head.specs.Word.{wordIn, wordBytes}
-use Rattle.head.specs.Items.{items, joined}
-use Rattle.head.specs.Task.{noTask, taskIn, taskBytes}
-use Rattle.head.specs.Codes.{largest}
-use Rattle.head.specs.Head.{bufferBytes, firstTask, lengthOf, countIn, tasksIn, registersIn, placesIn, headRefusal, headOf, booked, bit, frontOf, stateOf, recordOf, written}
+use Rattle.register.specs.Word.{wordIn, wordBytes}
+use Rattle.record.specs.Items.{items, joined}
+use Rattle.task.specs.Task.{noTask}
+use Rattle.task_bytes.specs.Tasks.{taskIn, taskBytes, firstTask, countIn, tasksIn, placesIn}
+use Rattle.register.specs.Codes.{largest}
+use Rattle.head.specs.Head.{bufferBytes, lengthOf, headRefusal, headOf, booked, bit, frontOf, stateOf, recordOf, written}
+use Rattle.register.specs.Registers.{registersIn}
 use Rattle.head.specs.Encodable.{Encodable}
-use Rattle.head.proofs.Items.{items-of}
-use Rattle.head.proofs.Within.{within-joined}
-use Rattle.head.proofs.Words.{word-of-bytes, task-of-bytes}
-use Rattle.head.proofs.Fits.{fits-word, fits-codes, unused-zero}
+use Rattle.record.proofs.Items.{items-of}
+use Rattle.record.proofs.Parts.{within-joined}
+use Rattle.register.proofs.Words.{word-of-bytes, word-length}
+use Rattle.task_bytes.proofs.Bytes.{task-of-bytes, task-length}
+use Rattle.register.proofs.Fits.{fits-word, fits-codes, unused-zero}
 use Rattle.head.proofs.Passed.{Passed, unrefused}
-use Rattle.head.proofs.Parts.{word-length, task-length, registers-length, record-length}
+use Rattle.head.proofs.Parts.{registers-length, record-length}
 
 bit-flag : (t : Bool) → eqb (bit t) 1 ≡ t
 bit-flag true = refl

@@ -1,13 +1,7 @@
-pub mod Items
-pub mod Laid
-pub mod TaskTests
 pub mod Passed
 pub mod Parts
-pub mod Words
-pub mod Fits
 pub mod Decoding
 pub mod Encoding
 pub mod Stores
 pub mod Past
-pub mod Within
 pub mod Answers

@@ -1,61 +1,20 @@
 -- Laws of the parts of a record. Assumes nothing.
-use Prim.Native.Nat.{ℕ, _+_, _*_, _-_, _≤_}
+use Prim.Native.Nat.{ℕ, _+_, _*_, _≤_}
 use mathlib.Core.Path.{_≡_, refl, ap, _∙_}
-use mathlib.Core.List.{List, [], _∷_, _++_, append-assoc}
+use mathlib.Core.List.{List, _++_, append-assoc}
 use native.Mathlib.Omega.{arith}
-use native.Mathlib.Nat.{add-zero, min-le-left}
-use lib.ListN.{length, getD, take, drop, set, replicate, length-append, length-drop, length-take}
-use lib.Seq.{take-at, length-take-le, getD-drop}
-use Rattle.head.specs.declared.Task.{Task}
+use native.Mathlib.Nat.{min-le-left}
+use lib.ListN.{length, drop, length-append, length-drop, length-take}
+use lib.Seq.{length-take-le}
+use Rattle.record.specs.Items.{joined, laid}
+use Rattle.record.proofs.Items.{joined-length}
+use Rattle.record.proofs.Laid.{laid-then, laid-front}
+use Rattle.register.specs.Word.{wordBytes}
+use Rattle.register.proofs.Words.{word-length}
+use Rattle.task_bytes.specs.Tasks.{taskBytes, firstTask}
+use Rattle.task_bytes.proofs.Bytes.{task-length}
 use Rattle.head.specs.declared.Head.{Head}
-use Rattle.head.specs.Word.{wordBytes, fourBytes, fourOf, fourIn}
-use Rattle.head.specs.Items.{joined, laid}
-use Rattle.head.specs.Task.{noTask, taskIn, taskBytes}
-use Rattle.head.specs.Head.{bufferBytes, firstTask, countIn, tasksIn, placesIn, booked, frontOf, stateOf, recordOf, written}
-use Rattle.head.proofs.Items.{items-length, joined-length}
-use Rattle.head.proofs.Laid.{laid-sets, laid-next, laid-then, laid-front}
-
--- as many tasks as the count says
-pub tasks-length : (b : List ℕ) → length (tasksIn b) ≡ countIn b
-unfolding tasksIn
-tasks-length b = items-length taskIn 9 (countIn b) (drop firstTask b)
-
--- the booked ones of the sixteen places
-pub places-booked : (b : List ℕ) → take (countIn b) (placesIn b) ≡ tasksIn b
-unfolding placesIn
-places-booked b = take-at (tasksIn b) (replicate (16 - countIn b) noTask) (countIn b) (tasks-length b)
-
--- three bytes for a word, nine for a task
-pub word-length : (w : ℕ) → length (wordBytes w) ≡ 3
-unfolding wordBytes
-word-length w = refl
-
-pub task-length : (t : Task) → length (taskBytes t) ≡ 9
-unfolding taskBytes fourBytes
-task-length t = refl
-
--- the bytes of a task at a place
-pub task-at : (b : List ℕ) (at : ℕ) →
-    record {
-      id = getD b at 0;
-      cycles = fourOf (getD b (at + 1) 0) (getD b (at + 2) 0) (getD b (at + 3) 0) (getD b (at + 4) 0);
-      period = fourOf (getD b (at + 5) 0) (getD b (at + 6) 0) (getD b (at + 7) 0) (getD b (at + 8) 0);
-    }
-    ≡ taskIn (drop at b)
-unfolding taskIn fourIn
-task-at b at = simp (getD-drop, add-zero)
-
--- a task's bytes, its id, cycles and period one after the other
-pub task-laid : (at : ℕ) (t : Task) (b : List ℕ) → at + 9 ≤ length b →
-    laid (at + 5) (fourBytes (t .period)) (laid (at + 1) (fourBytes (t .cycles)) (set b at (t .id))) ≡ laid at (taskBytes t) b
-unfolding taskBytes fourBytes
-task-laid at t b h =
-    let id : List ℕ = t .id ∷ [] in
-    rw (
-      laid-sets at id b (omega arith),
-      laid-next at id (fourBytes (t .cycles)) b (omega arith),
-      laid-next at (id ++ fourBytes (t .cycles)) (fourBytes (t .period)) b (omega arith),
-    )
+use Rattle.head.specs.Head.{bufferBytes, booked, frontOf, stateOf, recordOf, written}
 
 module _ (h : Head) (words : length (h .regs) ≡ 35) (room : h .count ≤ 16) where
   -- the record's parts have the lengths that their places say

@@ -10,9 +10,10 @@ use lib.ListN.{length, getD, take, drop}
 use Rattle.record.specs.Bytes.{twoBytes, isWithin}
 use Rattle.record.specs.Refusals.{refuse, firstOf}
 use Rattle.record.proofs.Bytes.{and-left, and-right}
-use Rattle.head.specs.Task.{allOk, distinct}
-use Rattle.head.specs.Codes.{largest}
-use Rattle.head.specs.Head.{bufferBytes, lengthOf, countIn, tasksIn, lengthFits, tasksFit, headRefusal}
+use Rattle.task.specs.Task.{allOk, distinct}
+use Rattle.register.specs.Codes.{largest}
+use Rattle.head.specs.Head.{bufferBytes, lengthOf, lengthFits, headRefusal}
+use Rattle.task_bytes.specs.Tasks.{countIn, tasksIn, tasksFit}
 
 -- the tests of `headRefusal`, all passed
 pub record Passed (b : List ℕ) : Type 0 where

@@ -5,11 +5,13 @@ use mathlib.Core.List.{List, _∷_}
 use native.Mathlib.Omega.{arith}
 use lib.ListN.{length, getD, take, drop, length-drop}
 use lib.Seq.{getD-take, getD-drop, length-take-le, ext-getD}
-use Rattle.head.specs.Word.{wordIn}
-use Rattle.head.specs.Task.{taskIn}
-use Rattle.head.specs.Head.{bufferBytes, firstTask, countIn, tasksIn, lengthFits, tasksFit, headRefusal, registersIn, placesIn, headOf}
-use Rattle.head.proofs.Items.{items-same}
-use Rattle.head.proofs.Words.{word-same, task-same}
+use Rattle.register.specs.Word.{wordIn}
+use Rattle.task_bytes.specs.Tasks.{taskIn, firstTask, countIn, tasksIn, tasksFit, placesIn}
+use Rattle.head.specs.Head.{bufferBytes, lengthFits, headRefusal, headOf}
+use Rattle.register.specs.Registers.{registersIn}
+use Rattle.record.proofs.Items.{items-same}
+use Rattle.register.proofs.Words.{word-same}
+use Rattle.task_bytes.proofs.Bytes.{task-same}
 
 module _ (b d : List ℕ) (lb : length b ≡ bufferBytes) (ld : length d ≡ bufferBytes) (front : take (firstTask + 9 * countIn b) b ≡ take (firstTask + 9 * countIn b) d) where
   at : (i : ℕ) → i < firstTask + 9 * countIn b → getD b i 0 ≡ getD d i 0

@@ -1,5 +1,5 @@
--- A store of a value within a register's codes keeps a head encodable, and changes that register only. The blank head is encodable.
--- Assumes nothing.
+-- What keeps a head encodable: a change that leaves the tasks, as a store of a value within a register's codes, which changes that
+-- register only. The blank head is encodable. Assumes nothing.
 use Prim.Native.Nat.{ℕ, _<_}
 use mathlib.Core.Path.{_≡_, refl, _∙_}
 use mathlib.Core.Bool.{Bool, true, false}
@@ -9,11 +9,11 @@ use lib.Dec.{eqb}
 use lib.ListN.{length, getD, set, length-set, getD-replicate}
 use lib.Seq.{getD-set-same, getD-set-other}
 use Rattle.head.specs.declared.Head.{Head}
-use Rattle.head.specs.Task.{allOk, distinct}
-use Rattle.head.specs.Codes.{fitsRegister}
+use Rattle.task.specs.Task.{allOk, distinct}
+use Rattle.register.specs.Codes.{fitsRegister}
 use Rattle.head.specs.Head.{blank, stored}
 use Rattle.head.specs.Encodable.{Encodable}
-use Rattle.head.proofs.Fits.{zero-fits}
+use Rattle.register.proofs.Fits.{zero-fits}
 
 pub stored-same : (h : Head) (n v : ℕ) → n < length (h .regs) → getD (stored h n v .regs) n 0 ≡ v
 stored-same h n v l = getD-set-same (h .regs) n v 0 l
@@ -21,20 +21,25 @@ stored-same h n v l = getD-set-same (h .regs) n v 0 l
 pub stored-other : (h : Head) (n v k : ℕ) → (k ≡ n → ⊥) → getD (stored h n v .regs) k 0 ≡ getD (h .regs) k 0
 stored-other h n v k e = getD-set-other (h .regs) n k v 0 e
 
+-- a head is encodable by its registers, its two bytes and its tasks; the flags do not matter
+pub same-tasks-encodable : {h g : Head} → Encodable h → length (g .regs) ≡ 35 → ((n : ℕ) → n < 35 → fitsRegister n (getD (g .regs) n 0) ≡ true) →
+    g .«boot_mode» < 256 → g .«wake_count» < 256 → g .tasks ≡ h .tasks → g .count ≡ h .count → Encodable g
+same-tasks-encodable e words codes boot wake tasks count = record {
+  words = words;
+  codes = codes;
+  boot = boot;
+  wake = wake;
+  places = rw tasks (e .places);
+  room = rw count (e .room);
+  each = rw (tasks, count) (e .each);
+  apart = rw (tasks, count) (e .apart);
+  inBytes = rw (tasks, count) (e .inBytes);
+  rest = rw (tasks, count) (e .rest);
+}
+
 pub store-encodable : (h : Head) (n v : ℕ) → Encodable h → fitsRegister n v ≡ true → Encodable (stored h n v)
 store-encodable h n v e fits =
-    record {
-      words = length-set (h .regs) n v ∙ e .words;
-      codes = λ k l. at k l (eqb k n) refl;
-      boot = e .boot;
-      wake = e .wake;
-      places = e .places;
-      room = e .room;
-      each = e .each;
-      apart = e .apart;
-      inBytes = e .inBytes;
-      rest = e .rest;
-    }
+    same-tasks-encodable e (length-set (h .regs) n v ∙ e .words) (λ k l. at k l (eqb k n) refl) (e .boot) (e .wake) refl refl
   where
     at : (k : ℕ) → k < 35 → (t : Bool) → eqb k n ≡ t → fitsRegister k (getD (set (h .regs) n v) k 0) ≡ true
     at k l true q =

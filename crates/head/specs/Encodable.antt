@@ -7,8 +7,8 @@ use lib.Dec.{eqb}
 use lib.ListN.{length, getD, drop, replicate}
 use Rattle.head.specs.declared.Head.{Head}
 use Rattle.head.specs.declared.Decoded.{Decoded}
-use Rattle.head.specs.Task.{noTask, allOk, distinct, InBytes}
-use Rattle.head.specs.Codes.{fitsRegister}
+use Rattle.task.specs.Task.{noTask, allOk, distinct, InBytes}
+use Rattle.register.specs.Codes.{fitsRegister}
 use Rattle.head.specs.Head.{booked, headRefusal, headOf, blank}
 
 -- a head that a record holds: each register within its codes, the booked tasks in order at the front, the other places empty

@@ -1,44 +1,28 @@
 -- The head record and its refusals. Assumes nothing.
-use Prim.Native.Nat.{ℕ, _+_, _*_, _-_, _/_, _%_}
+use Prim.Native.Nat.{ℕ, _+_, _*_, _/_, _%_}
 use mathlib.Core.Bool.{Bool, false, cond, not, _&&_}
 use mathlib.Core.List.{List, [], _∷_, _++_}
 use lib.Dec.{eqb, leb}
 use lib.ListN.{length, getD, take, drop, set, replicate}
 use Rattle.record.specs.Bytes.{twoBytes, isWithin}
 use Rattle.record.specs.Refusals.{refuse, firstOf}
-use Rattle.head.specs.declared.Task.{Task}
+use Rattle.record.specs.Items.{joined}
+use Rattle.register.specs.Word.{wordBytes}
+use Rattle.register.specs.Codes.{largest}
+use Rattle.register.specs.Registers.{registersIn}
+pub use Rattle.register.specs.Registers.{bufferBytes}
+use Rattle.task.specs.declared.Task.{Task}
+use Rattle.task.specs.Task.{noTask}
+use Rattle.task_bytes.specs.Tasks.{taskBytes, countIn, tasksFit, placesIn}
 use Rattle.head.specs.declared.Head.{Head}
-use Rattle.head.specs.Word.{wordIn, wordBytes}
-use Rattle.head.specs.Codes.{largest}
-use Rattle.head.specs.Items.{items, joined}
-use Rattle.head.specs.Task.{noTask, taskIn, taskBytes, allOk, distinct}
-
--- "a lent buffer of 255 bytes"
-abbrev pub bufferBytes : ℕ
-bufferBytes = 255
 
 -- "a 2-byte big-endian length (109 + 9 × tasks)"
 abbrev pub lengthOf : ℕ → ℕ
 lengthOf count = 109 + 9 * count
 
--- the tasks' place: after 3 bytes of length and version, 102 of registers, and 6 of flags, modes and counts
-abbrev pub firstTask : ℕ
-firstTask = 111
-
--- "task count 0 to 16", and the tasks, booked ones only
-abbrev pub countIn : List ℕ → ℕ
-countIn b = getD b 110 0
-
-unfoldable pub tasksIn : List ℕ → List Task
-tasksIn b = items taskIn 9 (countIn b) (drop firstTask b)
-
 -- 1 refuses a "record or buffer length", "or one that does not fit the task count"
 unfoldable pub lengthFits : List ℕ → Bool
 lengthFits b = eqb (length b) bufferBytes && (leb (countIn b) 16 && eqb (twoBytes (getD b 0 0) (getD b 1 0)) (lengthOf (countIn b)))
-
--- the tasks are such that neither 16 nor 40 would refuse one
-unfoldable pub tasksFit : List ℕ → Bool
-tasksFit b = allOk (tasksIn b) && distinct (tasksIn b)
 
 -- "1 record or buffer length ..; 2 version; 3 a byte outside its codes, .., or a head's task that 16 or 40 would refuse"
 unfoldable pub headRefusal : List ℕ → ℕ
@@ -48,14 +32,6 @@ headRefusal b =
     refuse 2 (not (eqb (getD b 2 0) 1)) ∷
     refuse 3 (not (isWithin (take 105 (drop 3 b)) (drop 3 largest))) ∷
     refuse 3 (not (tasksFit b)) ∷ [])
-
--- "registers 1 to 34", by number
-unfoldable pub registersIn : List ℕ → List ℕ
-registersIn b = 0 ∷ items wordIn 3 34 (drop 3 b)
-
--- sixteen places, those past the booked tasks empty
-unfoldable pub placesIn : List ℕ → List Task
-placesIn b = tasksIn b ++ replicate (16 - countIn b) noTask
 
 -- "After them: HXT48, HRC48 and LPSYS HXT48 ready flags, boot mode, wake count, task count 0 to 16"
 unfoldable pub headOf : List ℕ → Head

@@ -1,6 +1,2 @@
-pub mod Word
-pub mod Codes
-pub mod Items
-pub mod Task
 pub mod Head
 pub mod Encodable

@@ -1,24 +1,19 @@
 // The head record: 34 registers, ready flags and booked tasks, from bytes to a value and back.
-mod codes;
-pub mod registers;
-pub mod tasks;
-
 ghost use mathlib.Core.Path.{_≡_};
-ghost use Prim.Native.Nat.{_≤_, _<_};
+ghost use Prim.Native.Nat.{_≤_};
 ghost use lib.ListN.{length};
-ghost use Rattle.head.specs.Word.{wordOf, byteA, byteB, byteC};
-ghost use Rattle.head.specs.Items.{laid};
-ghost use Rattle.head.specs.Head.{bufferBytes, countIn, lengthFits, headRefusal, headOf, blank, bit, frontOf, stateOf, written};
+ghost use Rattle.record.specs.Items.{laid};
+ghost use Rattle.task_bytes.specs.Tasks.{countIn};
+ghost use Rattle.head.specs.Head.{bufferBytes, lengthFits, headRefusal, headOf, blank, bit, frontOf, stateOf, written};
 ghost use Rattle.head.specs.Encodable.{Decodes};
+pub use register::a;
+pub use register::b;
+pub use register::c;
+pub use register::word;
+pub use task::Task;
 
 // A head's record stands at the front of a buffer of so many bytes.
 pub const BUFFER_BYTES: usize = 255;
-
-pub struct Task {
-    pub id: u8,
-    pub cycles: u32,
-    pub period: u32,
-}
 
 pub struct Head {
     // Register n at index n, each its 24-bit value; number 0 is unused and 0.
@@ -37,39 +32,6 @@ pub struct Head {
 pub struct Decoded {
     pub refusal: u8,
     pub head: Head,
-}
-
-// The word of three bytes.
-pub fn word(a: u32, b: u32, c: u32) -> u32
-    requires { ⌜ (a < 256) × ((b < 256) × (c < 256)) ⌝ }
-    ensures { λ r. ⌜ r ≡ wordOf a b c ⌝ }
-{
-    a * 65536 + (b * 256 + c)
-}
-
-// The three bytes of a word.
-pub fn a(word: u32) -> u32
-    ensures { λ r. ⌜ r ≡ byteA word ⌝ }
-{
-    word / 65536 % 256
-}
-
-pub fn b(word: u32) -> u32
-    ensures { λ r. ⌜ r ≡ byteB word ⌝ }
-{
-    word / 256 % 256
-}
-
-pub fn c(word: u32) -> u32
-    ensures { λ r. ⌜ r ≡ byteC word ⌝ }
-{
-    word % 256
-}
-
-fn wide(x: u8) -> u32
-    ensures { λ r. ⌜ (r ≡ x) × (r < 256) ⌝ }
-{
-    x as u32
 }
 
 // Whether the buffer's length, the task count and the record's length fit each other.
@@ -96,10 +58,10 @@ fn refusal(buffer: &[u8]) -> u8
     if buffer[2] != 1 {
         return 2;
     }
-    if !codes::within(buffer) {
+    if !register::codes::within(buffer) {
         return 3;
     }
-    if !tasks::fit(buffer) {
+    if !task_bytes::fit(buffer) {
         return 3;
     }
     0
@@ -132,8 +94,8 @@ fn read(buffer: &[u8]) -> Head
     requires { ⌜ (length (now buffer) ≡ bufferBytes) × (countIn (now buffer) ≤ 16) ⌝ }
     ensures { λ r. ⌜ r ≡ headOf (now (buffer .entry)) ⌝ }
 {
-    let regs = registers::read(buffer);
-    let tasks = tasks::read(buffer);
+    let regs = register::read(buffer);
+    let tasks = task_bytes::read(buffer);
     Head {
         regs,
         hxt48_ready: buffer[105] == 1,
@@ -201,7 +163,7 @@ pub fn encode(head: Head, buffer: &mut [u8])
     let regs = head.regs;
     let tasks = head.tasks;
     write_front(count, buffer);
-    registers::write(regs, buffer);
+    register::write(regs, buffer);
     write_state(head, buffer);
-    tasks::write(tasks, count, buffer);
+    task_bytes::write(tasks, count, buffer);
 }

@@ -2,6 +2,9 @@ pub mod Reached
 pub mod Stores
 pub mod Delays
 pub mod Polls
-pub mod Flags
 pub mod Replay
 pub mod Moments
+pub mod Steps
+pub mod Framed
+pub mod Present
+pub mod Ended

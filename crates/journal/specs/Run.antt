@@ -42,6 +42,10 @@ going f r = cond (eqb (r .stop) 0) (f r) r
 abbrev pub ended : ℕ → ℕ → Effect
 ended n taken r = record { entries = r .entries; head = r .head; taken = taken; stop = n }
 
+-- the refusal `n` ends the call where it is
+unfoldable pub halted : ℕ → Effect
+halted n = going (λ (r : Run). ended n (r .taken) r)
+
 -- "An entry is number × 16,777,216 plus the 24-bit value"
 abbrev pub entry : ℕ → ℕ → ℕ
 entry number value = number * 16777216 + value

@@ -5,9 +5,10 @@ ghost use mathlib.Core.Path.{_≡_};
 ghost use mathlib.Core.Bool.{true};
 ghost use Prim.Native.Nat.{_<_, _≤_};
 ghost use lib.ListN.{length};
-ghost use Rattle.head.specs.Codes.{fitsRegister};
-ghost use Rattle.journal.specs.Run.{cycles as cyclesOf, store, delay};
-ghost use Rattle.journal.specs.Machine.{Ran, Ready, Kept};
+ghost use Rattle.register.specs.Codes.{fitsRegister};
+ghost use Rattle.head.specs.Encodable.{Encodable};
+ghost use Rattle.journal.specs.Run.{cycles as cyclesOf, halted, store, delay};
+ghost use Rattle.journal.specs.Machine.{Ran, Quietly, Ready, Kept};
 use head::Head;
 use time::Hertz;
 use time::Reading;
@@ -47,6 +48,26 @@ impl Machine {
             at: at + 1,
             taken: self.taken,
             stop: 0,
+        }
+    }
+
+    // Ends the call with a refusal; what was stored stays.
+    pub fn refuse(self, refusal: u8) -> Machine
+        requires { ⌜ Encodable (self .head) ⌝ }
+        ensures { λ r. ⌜ Quietly (halted refusal) self r ⌝ }
+        ensures { λ r. ⌜ Kept 0 self r ⌝ }
+        ensures { λ r. ⌜ r .taken ≡ self .taken ⌝ }
+    {
+        let stop = self.stop;
+        if stop != 0 {
+            return self;
+        }
+        let head = self.head;
+        Machine {
+            head,
+            at: self.at,
+            taken: self.taken,
+            stop: refusal,
         }
     }
 }

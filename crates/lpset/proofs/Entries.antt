@@ -1,25 +1,11 @@
--- A call's entries lie in the journal that it leaves. Assumes nothing.
+-- A request's entries lie in the journal that it leaves. Assumes nothing.
 use Prim.Native.Nat.{ℕ, _≤_}
-use mathlib.Core.Bool.{Bool, true, false, cond}
 use mathlib.Core.List.{List}
-use native.Mathlib.Omega.{arith}
-use lib.Dec.{eqb}
-use lib.ListN.{length, length-append}
-use Rattle.journal.specs.Run.{Run, Effect, begin}
-use Rattle.head.specs.Head.{headOf}
+use lib.ListN.{length}
 use Rattle.call.specs.declared.Answer.{Answer}
-use Rattle.call.specs.Call.{Answers, performed, finished, refused}
+use Rattle.call.specs.Call.{Answers}
+use Rattle.call.proofs.Entries.{performed-within}
 use Rattle.clock_lpsys.specs.Calls.{lpsysRequest}
-
-by-cases : (t : Bool) (r : Run) (refusal value : ℕ) (b j : List ℕ) →
-    cond t (finished r value b j) (refused refusal b j) .entries ≤ length (cond t (finished r value b j) (refused refusal b j) .journal)
-by-cases true r refusal value b j = simp length-append (omega arith)
-by-cases false r refusal value b j = omega arith
-
-performed-within : (refusal : ℕ) (f : Effect) (value : ℕ) (b j : List ℕ) →
-    performed refusal f value b j .entries ≤ length (performed refusal f value b j .journal)
-unfolding performed
-performed-within refusal f value b j = by-cases (eqb refusal 0) (f (begin (headOf b))) refusal value b j
 
 pub entries-within : (mhz : ℕ) (b j b' j' : List ℕ) (r : Answer) → Answers (lpsysRequest mhz b j) r b' j' → r .entries ≤ length j'
 unfolding lpsysRequest

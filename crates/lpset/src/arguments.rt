@@ -1,6 +1,6 @@
 // The program's two arguments: a head file and a request.
 ghost use Rattle.io.specs.Counts.{Counts};
-use crate::request::decimal;
+use digits::request::decimal;
 use time::Megahertz;
 
 // Reads the head file to the start of the buffer, and answers how many bytes came before the file's

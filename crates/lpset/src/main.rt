@@ -2,9 +2,7 @@
 // argument names, and writes the journal's entries, the answer and the LPSYS HCLK that the request
 // leaves to standard output. The file stays as it is.
 mod arguments;
-mod hex;
 mod report;
-mod request;
 
 ghost use mathlib.Core.Path.{_≡_};
 ghost use Rattle.lpset.specs.Hclk.{hclkIn};

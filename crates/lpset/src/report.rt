@@ -1,5 +1,5 @@
 // What the program writes.
-use crate::hex::six_digits;
+use digits::hex::six_digits;
 use libc::STDERR_FILENO;
 use libc::STDOUT_FILENO;
 use time::MaybeHertz;

@@ -1,3 +1,6 @@
 pub mod Bytes
 pub mod Lists
 pub mod Refusals
+pub mod Items
+pub mod Laid
+pub mod Parts

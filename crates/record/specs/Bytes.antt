@@ -1,8 +1,9 @@
 -- Bytes of a record. Assumes nothing.
-use Prim.Native.Nat.{ℕ, _+_, _*_}
+use Prim.Native.Nat.{ℕ, _+_, _*_, _<_}
 use mathlib.Core.List.{List, [], _∷_}
 use mathlib.Core.Bool.{Bool, true, false, _&&_}
 use lib.Dec.{leb}
+use lib.ListN.{getD}
 
 -- "two-byte values high byte first"
 abbrev pub twoBytes : ℕ → ℕ → ℕ
@@ -14,3 +15,7 @@ isWithin [] [] = true
 isWithin [] (m ∷ ms) = false
 isWithin (x ∷ xs) [] = false
 isWithin (x ∷ xs) (m ∷ ms) = leb x m && isWithin xs ms
+
+-- all are bytes
+abbrev pub Bytes : List ℕ → Type 0
+Bytes b = (i : ℕ) → getD b i 0 < 256

@@ -1,10 +1,10 @@
 // A file of records, replayed line by line.
-use crate::answer::Outcome;
 use crate::kind::Kind;
-use crate::lines::Line;
-use crate::lines::Reader;
 use crate::report;
 use crate::tally::Tally;
+use lines::reader::Line;
+use lines::reader::Reader;
+use recorded::Outcome;
 
 // How many of the differing lines are shown.
 const SHOWN: u64 = 10;
@@ -15,9 +15,15 @@ fn replay_line(kind: Kind, number: u64, tally: Tally, line: &[u8]) -> Tally {
     let mut text = [0u8; 4096];
     match kind.replay(line, &mut text) {
         Outcome::Same => tally.one_replayed(),
-        Outcome::Different(answered) => {
+        Outcome::Different { from, to } => {
             if tally.different < SHOWN {
-                report::different(kind, number, line, &text[..answered]);
+                report::different(kind, number, line, &text[from..to]);
+            }
+            tally.one_replayed().one_different()
+        }
+        Outcome::Overwritten => {
+            if tally.different < SHOWN {
+                report::overwritten(kind, number, line);
             }
             tally.one_replayed().one_different()
         }

@@ -1,14 +1,14 @@
 // What the lines of a file record.
 ghost use lib.ListN.{length};
-ghost use Rattle.replay.specs.Answer.{AnswerWithin};
-use crate::answer::Outcome;
-use crate::heads;
-use crate::plans;
+ghost use Rattle.recorded.specs.Answer.{AnswerWithin};
 use libc::STDOUT_FILENO;
+use recorded::Outcome;
 
 pub enum Kind {
     Plans,
     Heads,
+    Lpsys,
+    Config,
 }
 
 impl Kind {
@@ -21,6 +21,12 @@ impl Kind {
             Kind::Heads => {
                 io::write_all(STDOUT_FILENO, b"heads: ");
             }
+            Kind::Lpsys => {
+                io::write_all(STDOUT_FILENO, b"lpsys: ");
+            }
+            Kind::Config => {
+                io::write_all(STDOUT_FILENO, b"config: ");
+            }
         }
     }
 
@@ -29,8 +35,10 @@ impl Kind {
         ensures { λ r. ⌜ AnswerWithin r (length (now (text .entry))) ⌝ }
     {
         match self {
-            Kind::Plans => plans::plan_line(line, text),
-            Kind::Heads => heads::head_line(line, text),
+            Kind::Plans => recorded::plan_line(line, text),
+            Kind::Heads => recorded::head_line(line, text),
+            Kind::Lpsys => recorded::call_line(line, text),
+            Kind::Config => recorded_config::config_line(line, text),
         }
     }
 }

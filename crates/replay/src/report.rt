@@ -1,8 +1,8 @@
 // What the program says of a file of records, on standard output.
 use crate::kind::Kind;
-use crate::lines::Fault;
 use crate::tally::Tally;
 use libc::STDOUT_FILENO;
+use lines::reader::Fault;
 
 fn say(text: &[u8]) {
     io::write_all(STDOUT_FILENO, text);
@@ -24,10 +24,16 @@ pub fn different(kind: Kind, number: u64, line: &[u8], answer: &[u8]) {
     say(b"\n");
 }
 
+pub fn overwritten(kind: Kind, number: u64, line: &[u8]) {
+    at_line(kind, number);
+    say(line);
+    say(b", words past the entries changed\n");
+}
+
 pub fn malformed(kind: Kind, number: u64, line: &[u8]) {
     at_line(kind, number);
     say(line);
-    say(b", not hexadecimal fields and an answer\n");
+    say(b", not fields and an answer\n");
 }
 
 // A line from which on the file is not read.

@@ -1,16 +1,6 @@
 // The LPSYS calls.
-ghost use Rattle.clock_lpsys.specs.Calls.{
-  lpsysRequest,
-  safeFrequency,
-  wakeLcpu,
-  cancelLcpu,
-  ensureHxt48,
-  setLpsysHdiv,
-  setLpsysDiv,
-  configMac,
-  selectSysclk,
-  selectPeri,
-};
+ghost use Rattle.clock_lpsys.specs.Calls.{lpsysRequest, safeFrequency, wakeLcpu, cancelLcpu, ensureHxt48};
+ghost use Rattle.lpsys_setters.specs.Setters.{setLpsysHdiv, setLpsysDiv, configMac, selectSysclk, selectPeri};
 ghost use Rattle.rikkovan.specs.Word.{Gives};
 use crate::word;
 use time::Megahertz;

@@ -28,3 +28,8 @@ found n = cond (eqb n 0) Unreadable (At (record { 0 = n }))
 abbrev pub maybe : Reading → ℕ
 maybe (At f) = f .0
 maybe Unreadable = 0
+
+-- `unwrap_or`: the frequency that reads, or `n`
+abbrev pub hzOr : ℕ → Reading → ℕ
+hzOr n (At f) = f .0
+hzOr n Unreadable = n

@@ -1,7 +1,7 @@
 // time.rs: frequencies in hertz and in whole megahertz. The source is modified from embassy-stm32; see NOTICE.
 ghost use mathlib.Core.Path.{_≡_};
 ghost use Prim.Native.Nat.{_+_, _*_, _/_};
-ghost use Rattle.time.specs.Frequency.{exact, quotient, megahertz, maybe, found};
+ghost use Rattle.time.specs.Frequency.{exact, quotient, megahertz, maybe, found, hzOr};
 
 // A frequency in Hz.
 pub struct Hertz(pub u32);
@@ -86,6 +86,17 @@ impl Hertz {
     {
         let hertz = self.0;
         Megahertz(hertz / 1000000)
+    }
+}
+
+impl Reading {
+    pub fn unwrap_or(self, other: Hertz) -> Hertz
+        ensures { λ r. ⌜ r .0 ≡ hzOr (other .0) self ⌝ }
+    {
+        let Reading::At(f) = self else {
+            return other;
+        };
+        f
     }
 }
 

@@ -6,8 +6,11 @@ use lib.Dec.{eqb}
 use Rattle.record.proofs.Refusals.{none-at, not-refused}
 use Rattle.plan.specs.declared.Plan.{Plan}
 use Rattle.plan.specs.Plan.{legal}
+use Rattle.plan_clocks.specs.Clocks.{targetOf}
+use Rattle.plan_sources.specs.Sources.{coreOnAbsentDll1, coreOnDbl96, flashOnAbsentDll, usbOnAbsentDll2}
+use Rattle.plan_limits.specs.Limits.{usbNot60, dll1CoreTooSlow, hclkTooFast, pclk1TooFast, pclk2TooFast, dll2TooFast}
 use Rattle.verdict.specs.declared.Verdict.the-variants.{Accepted, Refused}
-use Rattle.verdict.specs.Verdict.{targetOf, verdictOf, numberOf, planTests, planRefusal, coreOnAbsentDll1, coreOnDbl96, flashOnAbsentDll, usbOnAbsentDll2, usbNot60, dll1CoreTooSlow, hclkTooFast, pclk1TooFast, pclk2TooFast, dll2TooFast}
+use Rattle.verdict.specs.Verdict.{verdictOf, numberOf, planTests, planRefusal}
 
 -- an accepted plan passed each test
 pub record Passed (p : Plan) : Type 0 where

@@ -12,7 +12,10 @@ use Rattle.clock.specs.declared.MaybeDll.the-variants.{Absent, Present}
 use Rattle.clock.proofs.Laws.{dll-least, dll-most}
 use Rattle.plan.specs.declared.Plan.{Plan}
 use Rattle.plan.specs.Plan.{stageOf}
-use Rattle.verdict.specs.Verdict.{isAbsent, maybeHz, sysHz, usbHz, planRefusal, coreOnAbsentDll1, usbOnAbsentDll2, usbNot60, usbDivider}
+use Rattle.plan_clocks.specs.Clocks.{maybeHz, sysHz, usbHz, usbDivider}
+use Rattle.plan_sources.specs.Sources.{isAbsent, coreOnAbsentDll1, usbOnAbsentDll2}
+use Rattle.plan_limits.specs.Limits.{usbNot60}
+use Rattle.verdict.specs.Verdict.{planRefusal}
 use Rattle.plan.proofs.WellFormed.{legal-stages}
 use Rattle.verdict.proofs.Passed.{Passed, passed}
 

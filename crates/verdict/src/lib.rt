@@ -1,20 +1,11 @@
 // The verdict on a plan: rcc/clock_config.rs, `ConfigBuilder::check`.
-mod clocks;
 mod rules;
 
 ghost use mathlib.Core.Path.{_≡_};
 ghost use Rattle.verdict.specs.Verdict.{verdictOf, verdict};
 use plan::Decoded;
 use plan::Plan;
-use time::Hertz;
-
-// What an accepted plan gives. The USB divider of a plan without USB is 0.
-pub struct Target {
-    pub hclk: Hertz,
-    pub pclk1: Hertz,
-    pub pclk2: Hertz,
-    pub usb_div: u8,
-}
+pub use plan_clocks::Target;
 
 pub enum Verdict {
     Accepted(Target),
@@ -30,7 +21,7 @@ pub fn check_plan(p: Plan) -> Verdict
     if refusal != 0 {
         return Verdict::Refused(refusal);
     }
-    Verdict::Accepted(clocks::target(p))
+    Verdict::Accepted(plan_clocks::target_of(p))
 }
 
 // The verdict on the bytes of a record.

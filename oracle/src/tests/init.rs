@@ -148,3 +148,58 @@ fn refused_by_the_plan() {
     let outcome = call::init(&at_48_mhz(), &plan_with(&[(at::PDIV1, 0)]), &[]);
     assert_eq!((outcome.answer, outcome.entries.len()), (12, 0));
 }
+
+/// The answers that the default plan takes from the first head above, cut at
+/// every length: each is 36 and takes all.
+#[test]
+fn cut_at_every_length() {
+    let mut head = at_48_mhz();
+    head.hxt48_ready = false;
+    let answers = [0, 1, 1, 1100, 1000, 0, 7, 5, 5, 1, 0, 1];
+    for length in 0..answers.len() {
+        let outcome = call::init(&head, &plan_with(&[]), &answers[..length]);
+        assert_eq!((outcome.answer, outcome.taken), (36, length));
+        assert_eq!((outcome.value, outcome.clocks), (0, [0; 15]));
+        assert_eq!(outcome.head.hxt48_ready, length > 1);
+    }
+    let outcome = call::init(&head, &plan_with(&[]), &answers);
+    assert_eq!((outcome.answer, outcome.taken), (0, answers.len()));
+}
+
+/// From 48 MHz with everything off and a search of 11 measurements.
+#[test]
+fn most_entries() {
+    let mut answers = [1, 1064, 1000].repeat(11);
+    answers.extend([1, 1]);
+    let outcome = call::init(&at_48_mhz(), &plan_with(&[]), &answers);
+    assert_eq!((outcome.answer, outcome.entries.len()), (0, 88));
+}
+
+/// DLL2 as the plan has it is not stored, and takes no answer.
+#[test]
+fn dll2_already_set() {
+    let plan = plan_with(&[(at::CALIBRATE, 0)]);
+    let dll2_stores = |dll2: u32| {
+        let mut head = at_48_mhz();
+        head.registers[4] = dll2;
+        let outcome = call::init(&head, &plan, &[1, 1]);
+        let stored = outcome.entries.iter().filter(|&&entry| entry >> 24 == 4);
+        (stored.count(), outcome.taken)
+    };
+    assert_eq!(dll2_stores(0x01000B), (0, 1));
+    for other in [0x00000B, 0x01010B, 0x01000A] {
+        assert_eq!(dll2_stores(other), (2, 2));
+    }
+}
+
+/// DLL1 at 264 MHz with the plan's hdiv: 35 after the dividers.
+#[test]
+fn present_hclk_above_240() {
+    let mut head = at_240_mhz();
+    head.registers[3] = 0x01000A;
+    let plan = plan_with(&[(at::CALIBRATE, 0)]);
+    let outcome = call::init(&head, &plan, &[1, 1]);
+    let expected = [(6, 1), (23, 1), (10, 1), (24, 1), (2, 0x010106)];
+    assert_eq!((outcome.answer, outcome.clocks), (35, [0; 15]));
+    assert_eq!(outcome.entries, entries(&expected));
+}

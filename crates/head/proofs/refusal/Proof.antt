@@ -6,8 +6,9 @@ use borrow.Author.Tests.{eq-eqb, ne-eqb, not-true, not-false}
 use lib.ListN.{take, drop}
 use Rattle.record.specs.Bytes.{isWithin}
 use Rattle.record.specs.Refusals.{firstOf}
-use Rattle.head.specs.Codes.{largest}
-use Rattle.head.specs.Head.{lengthFits, tasksFit, headRefusal}
+use Rattle.register.specs.Codes.{largest}
+use Rattle.head.specs.Head.{lengthFits, headRefusal}
+use Rattle.task_bytes.specs.Tasks.{tasksFit}
 use Rattle.head.proofs.Passed.{fits-length, fits-count}
 use borrow.Author.Needs.{needs}
 use Rattle.head.proofs.refusal.Statement.{statement}

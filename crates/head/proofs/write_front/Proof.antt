@@ -1,7 +1,7 @@
 -- `head::write_front` meets its contract: three stores in a row. Assumes nothing.
 use native.Mathlib.Omega.{arith}
 use Rattle.head.specs.Head.{frontOf}
-use Rattle.head.proofs.Laid.{laid-sets}
+use Rattle.record.proofs.Laid.{laid-sets}
 use borrow.Author.Needs.{needs}
 use Rattle.head.proofs.write_front.Statement.{statement}
 use Rattle.head.proofs.write_front.Tie as tie

@@ -2,7 +2,7 @@
 use native.Mathlib.Omega.{arith}
 use lib.ListN.{length-set}
 use Rattle.head.specs.Head.{stateOf}
-use Rattle.head.proofs.Laid.{laid-sets}
+use Rattle.record.proofs.Laid.{laid-sets}
 use borrow.Author.Needs.{needs}
 use Rattle.head.proofs.write_state.Statement.{statement}
 use Rattle.head.proofs.write_state.Tie as tie

@@ -15,12 +15,12 @@ returns : tie.Need-returns
 unfolding verdictOf
 returns c = simp (← c .before .refusal .ensures, ne-eqb _ _ (c .if1 .taken))
 
-target-requires : tie.Need-target-requires
-target-requires c κs = legal-stages (c .before .before .args .p) (passed (c .before .before .args .p) (sym (c .before .refusal .ensures) ∙ c .if1 .left) .test-3)
+target-of-requires : tie.Need-target-of-requires
+target-of-requires c κs = legal-stages (c .before .before .args .p) (passed (c .before .before .args .p) (sym (c .before .refusal .ensures) ∙ c .if1 .left) .test-3)
 
 returns-2 : tie.Need-returns-2
 unfolding verdictOf
-returns-2 c = simp (← c .before .before .refusal .ensures, eq-eqb _ _ (c .before .if1 .left), c .target .ensures)
+returns-2 c = simp (← c .before .before .refusal .ensures, eq-eqb _ _ (c .before .if1 .left), c .target-of .ensures)
 
 pub check-plan-spec : {M : Type 1} → statement M
-check-plan-spec = tie.close (tie.spec refusal-requires returns target-requires returns-2)
+check-plan-spec = tie.close (tie.spec refusal-requires returns target-of-requires returns-2)

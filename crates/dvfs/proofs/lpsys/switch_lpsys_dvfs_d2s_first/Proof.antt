@@ -1,7 +1,7 @@
 -- `dvfs::lpsys::switch_lpsys_dvfs_d2s_first` meets its contract: one step after the other. Assumes nothing.
 use Rattle.record.specs.Bytes.{isWithin}
-use Rattle.head.specs.Word.{wordBytes}
-use Rattle.head.specs.Codes.{fitsRegister, largest}
+use Rattle.register.specs.Word.{wordBytes}
+use Rattle.register.specs.Codes.{fitsRegister, largest}
 use native.Mathlib.Omega.{arith}
 use mathlib.Core.Path.{refl, _∙_}
 use Rattle.journal.proofs.Reached.{ran-then}
@@ -10,9 +10,15 @@ use borrow.Author.Needs.{needs}
 use Rattle.dvfs.proofs.lpsys.switch_lpsys_dvfs_d2s_first.Statement.{statement}
 use Rattle.dvfs.proofs.lpsys.switch_lpsys_dvfs_d2s_first.Tie as tie
 
+get-config-requires : tie.Need-get-config-requires
+get-config-requires c κs = search needs
+
+cast-store : tie.Need-cast-store
+cast-store c = search needs
+
 store-requires : tie.Need-store-requires
 unfolding fitsRegister isWithin wordBytes largest
-store-requires c κs = (search needs, (search needs, refl))
+store-requires c κs = (search needs, (search needs, rw (c .before .before .get-config .ensures) refl))
 
 store-requires-2 : tie.Need-store-requires-2
 unfolding fitsRegister isWithin wordBytes largest
@@ -27,10 +33,10 @@ same-length c = search needs
 returns : tie.Need-returns
 unfolding lpsysD2sFirst
 returns c = (
-  ran-then (ran-then (c .before .before .before .before .before .before .before .before .before .before .store .ensures .0) (c .before .before .before .before .before .before .store2 .ensures .0)) (c .before .before .delay-us .ensures .0),
+  ran-then (ran-then (rw (c .before .before .before .before .before .before .before .before .before .before .before .before .before .get-config .ensures) at (c .before .before .before .before .before .before .before .before .before .before .store .ensures .0)) (c .before .before .before .before .before .before .store2 .ensures .0)) (c .before .before .delay-us .ensures .0),
   (record { room = omega (arith, c .before .before .before .before .before .before .before .before .before .before .store .ensures .1 .0 .room, c .before .before .before .before .before .before .store2 .ensures .1 .0 .room, c .before .before .delay-us .ensures .1 .0 .room); encodable = c .before .before .delay-us .ensures .1 .0 .encodable }, c .before .before .delay-us .ensures .1 .1 ∙ (c .before .before .before .before .before .before .store2 .ensures .1 .1 ∙ c .before .before .before .before .before .before .before .before .before .before .store .ensures .1 .1)),
 )
 
 pub switch-lpsys-dvfs-d2s-first-spec : {M : Type 1} → statement M
 switch-lpsys-dvfs-d2s-first-spec =
-    tie.close (tie.spec store-requires store-requires-2 delay-us-requires same-length returns)
+    tie.close (tie.spec get-config-requires cast-store store-requires store-requires-2 delay-us-requires same-length returns)

@@ -1,7 +1,7 @@
 -- `dvfs::lpsys::switch_lpsys_dvfs_s2d_second` meets its contract: one store after the other. Assumes nothing.
 use Rattle.record.specs.Bytes.{isWithin}
-use Rattle.head.specs.Word.{wordBytes}
-use Rattle.head.specs.Codes.{fitsRegister, largest}
+use Rattle.register.specs.Word.{wordBytes}
+use Rattle.register.specs.Codes.{fitsRegister, largest}
 use native.Mathlib.Omega.{arith}
 use mathlib.Core.Path.{refl, _∙_}
 use Rattle.journal.proofs.Reached.{ran-then}
@@ -10,9 +10,12 @@ use borrow.Author.Needs.{needs}
 use Rattle.dvfs.proofs.lpsys.switch_lpsys_dvfs_s2d_second.Statement.{statement}
 use Rattle.dvfs.proofs.lpsys.switch_lpsys_dvfs_s2d_second.Tie as tie
 
+get-config-requires : tie.Need-get-config-requires
+get-config-requires c κs = search needs
+
 store-requires : tie.Need-store-requires
 unfolding fitsRegister isWithin wordBytes largest
-store-requires c κs = (search needs, (search needs, refl))
+store-requires c κs = (search needs, (search needs, rw (c .before .get-config .ensures) refl))
 
 store-requires-2 : tie.Need-store-requires-2
 unfolding fitsRegister isWithin wordBytes largest
@@ -24,10 +27,10 @@ same-length c = search needs
 returns : tie.Need-returns
 unfolding lpsysS2dSecond
 returns c = (
-  ran-then (c .before .before .before .before .before .before .store .ensures .0) (c .before .before .store2 .ensures .0),
+  ran-then (rw (c .before .before .before .before .before .before .before .before .get-config .ensures) at (c .before .before .before .before .before .before .store .ensures .0)) (c .before .before .store2 .ensures .0),
   (record { room = omega (arith, c .before .before .before .before .before .before .store .ensures .1 .0 .room, c .before .before .store2 .ensures .1 .0 .room); encodable = c .before .before .store2 .ensures .1 .0 .encodable }, c .before .before .store2 .ensures .1 .1 ∙ c .before .before .before .before .before .before .store .ensures .1 .1),
 )
 
 pub switch-lpsys-dvfs-s2d-second-spec : {M : Type 1} → statement M
 switch-lpsys-dvfs-s2d-second-spec =
-    tie.close (tie.spec store-requires store-requires-2 same-length returns)
+    tie.close (tie.spec get-config-requires store-requires store-requires-2 same-length returns)

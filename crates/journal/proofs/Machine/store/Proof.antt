@@ -1,7 +1,7 @@
 -- `journal::Machine::store` meets its contract: one entry, and the value in the register, unless the call has ended. Assumes nothing.
 use native.Mathlib.Omega.{arith}
 use mathlib.Core.Path.{refl}
-use Rattle.head.proofs.Fits.{fits-word}
+use Rattle.register.proofs.Fits.{fits-word}
 use Rattle.head.proofs.Stores.{store-encodable}
 use Rattle.journal.specs.Run.{store}
 use Rattle.journal.proofs.Reached.{ran-ended}

@@ -30,7 +30,7 @@ flag-requires-2 c κs = search needs
 
 returns : tie.Need-returns
 unfolding encoded
-returns c = cc
+returns c = simp (c .flag2 .ensures, c .before .flag .ensures, c .before .before .half2 .ensures, c .before .before .before .stage2 .ensures, c .before .before .before .before .present2 .ensures, c .before .before .before .before .before .half .ensures, c .before .before .before .before .before .before .stage .ensures, c .before .before .before .before .before .before .before .present .ensures)
 
 pub bytes-spec : {M : Type 1} → statement M
 bytes-spec =

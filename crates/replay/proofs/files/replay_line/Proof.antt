@@ -1,6 +1,4 @@
 -- `replay::files::replay_line` is safe and ends: where a line differs, our answer lies within the text. Assumes nothing.
-use mathlib.Core.Path.{sym}
-use lib.Seq.{length-take-le}
 use native.Mathlib.Omega.{arith}
 use borrow.Author.Needs.{needs}
 use Rattle.replay.proofs.files.replay_line.Statement.{statement}
@@ -10,53 +8,67 @@ slice-aggregate-replay : tie.Need-slice-aggregate-replay
 slice-aggregate-replay c = search needs
 
 replay-requires : tie.Need-replay-requires
-replay-requires c κs = tt
+replay-requires c κs = search needs
 
 enum-told : tie.Need-enum-told
 enum-told c = search needs
 
 one-replayed-requires : tie.Need-one-replayed-requires
-one-replayed-requires c κs = tt
+one-replayed-requires c κs = search needs
 
-enum-known-answered : tie.Need-enum-known-answered
-enum-known-answered c = search needs
+enum-known-from : tie.Need-enum-known-from
+enum-known-from c = search needs
 
-array-share-prefix-text : tie.Need-array-share-prefix-text
-array-share-prefix-text c =
-    let replay = c .before .before .before .before .before .before .replay in
-    omega (arith, rw (c .before .before .before .answered .given .1) at (replay .ensures), replay .kept .1 .1 .0)
+sub-different : tie.Need-sub-different
+sub-different c = omega (arith, rw (c .before .before .before .from .given .1) at (c .before .before .before .before .before .before .replay .ensures), c .before .before .before .before .before .before .replay .kept .1 .1 .0)
 
-slice-aggregate-different : tie.Need-slice-aggregate-different
-slice-aggregate-different c =
-    let replay = c .before .before .before .before .before .before .before .replay in
-    sym (length-take-le _ _ (omega (arith, rw (c .before .before .before .before .answered .given .1) at (replay .ensures), replay .kept .1 .1 .0)))
+part-different-start : tie.Need-part-different-start
+part-different-start c = omega (arith, rw (c .before .before .before .before .from .given .1) at (c .before .before .before .before .before .before .before .replay .ensures), c .before .before .before .before .before .before .before .replay .kept .1 .1 .0)
+
+part-different-end : tie.Need-part-different-end
+part-different-end c = omega (arith, rw (c .before .before .before .before .from .given .1) at (c .before .before .before .before .before .before .before .replay .ensures), c .before .before .before .before .before .before .before .replay .kept .1 .1 .0)
 
 different-requires : tie.Need-different-requires
-different-requires c κs = tt
+different-requires c κs = search needs
 
 one-replayed-requires-2 : tie.Need-one-replayed-requires-2
-one-replayed-requires-2 c κs = tt
+one-replayed-requires-2 c κs = search needs
 
 one-different-requires : tie.Need-one-different-requires
-one-different-requires c κs = tt
+one-different-requires c κs = search needs
 
 enum-told-2 : tie.Need-enum-told-2
 enum-told-2 c = search needs
 
-malformed-requires : tie.Need-malformed-requires
-malformed-requires c κs = tt
+overwritten-requires : tie.Need-overwritten-requires
+overwritten-requires c κs = search needs
+
+one-replayed-requires-3 : tie.Need-one-replayed-requires-3
+one-replayed-requires-3 c κs = search needs
 
 one-different-requires-2 : tie.Need-one-different-requires-2
-one-different-requires-2 c κs = tt
+one-different-requires-2 c κs = search needs
+
+enum-told-3 : tie.Need-enum-told-3
+enum-told-3 c = search needs
+
+malformed-requires : tie.Need-malformed-requires
+malformed-requires c κs = search needs
+
+one-different-requires-3 : tie.Need-one-different-requires-3
+one-different-requires-3 c κs = search needs
 
 returns : tie.Need-returns
-returns c = tt
+returns c = search needs
 
 returns-2 : tie.Need-returns-2
-returns-2 c = tt
+returns-2 c = search needs
 
 returns-3 : tie.Need-returns-3
-returns-3 c = tt
+returns-3 c = search needs
+
+returns-4 : tie.Need-returns-4
+returns-4 c = search needs
 
 pub replay-line-spec : {M : Type 1} → statement M
 replay-line-spec =
@@ -66,15 +78,21 @@ replay-line-spec =
     replay-requires
     enum-told
     one-replayed-requires
-    enum-known-answered
-    array-share-prefix-text
-    slice-aggregate-different
+    enum-known-from
+    sub-different
+    part-different-start
+    part-different-end
     different-requires
     one-replayed-requires-2
     one-different-requires
     enum-told-2
-    malformed-requires
+    overwritten-requires
+    one-replayed-requires-3
     one-different-requires-2
+    enum-told-3
+    malformed-requires
+    one-different-requires-3
     returns
     returns-2
-    returns-3)
+    returns-3
+    returns-4)

@@ -1,0 +1,57 @@
+-- What each call of rcc/clock_config.rs leaves, on the bytes lent to it: `pb` a plan's, `b` a head's, `j` a journal, `a` answers. Assumes
+-- nothing.
+use Prim.Native.Nat.{ℕ}
+use mathlib.Core.Bool.{cond, not}
+use mathlib.Core.List.{List, [], _∷_, _++_}
+use lib.Dec.{eqb}
+use lib.ListN.{take, drop, replicate}
+use Rattle.record.specs.Refusals.{refuse, firstOf}
+use Rattle.plan.specs.Plan.{planOf}
+use Rattle.verdict.specs.Verdict.{verdict, numberOf}
+use Rattle.head.specs.declared.Head.{Head}
+use Rattle.head.specs.Head.{headOf}
+use Rattle.clock_read.specs.Clocks.{clocksOf}
+use Rattle.journal.specs.Run.{Run, Effect, begin}
+use Rattle.call.specs.Call.{Result, answersTests, performed}
+use Rattle.calibration.specs.Calibration.{calibrateHrc48}
+use Rattle.clock_switch.specs.Switch.{toPlan}
+use Rattle.clock_config.specs.Init.{init, initWarning}
+
+-- "Calls test 17, 18, the head's 1 to 3, then the rest": `calibrate_hrc48`, with 31
+abbrev pub calibrationTests : List ℕ → List ℕ
+calibrationTests b = refuse 31 (not (headOf b .«hxt48_ready»)) ∷ []
+
+unfoldable pub calibration : List ℕ → List ℕ → List ℕ → Result
+calibration b j a = performed (firstOf (answersTests b j a ++ calibrationTests b)) (calibrateHrc48 a) 0 b j
+
+-- a call that is lent a plan: the plan's 1 to 14 come after the head's
+abbrev pub planTests : List ℕ → List ℕ
+planTests pb = numberOf (verdict pb) ∷ []
+
+abbrev pub planCall : Effect → ℕ → List ℕ → List ℕ → List ℕ → List ℕ → Result
+planCall f value pb b j a = performed (firstOf (answersTests b j a ++ planTests pb)) f value b j
+
+-- `init`
+unfoldable pub initCall : List ℕ → List ℕ → List ℕ → List ℕ → Result
+initCall pb b j a = planCall (init (planOf pb) a) (initWarning (planOf pb) a (begin (headOf b))) pb b j a
+
+-- the head as an effect leaves it
+abbrev pub headAfter : Effect → List ℕ → Head
+headAfter f b = f (begin (headOf b)) .head
+
+-- "`init` gives the `Clocks` read last, all none on a refusal."
+unfoldable pub initClocks : List ℕ → List ℕ → List ℕ → List ℕ → List ℕ
+initClocks pb b j a = cond (eqb (initCall pb b j a .refusal) 0) (clocksOf (headAfter (init (planOf pb) a) b)) (replicate 15 0)
+
+-- `reconfigure_sysclk`
+unfoldable pub reconfigureCall : List ℕ → List ℕ → List ℕ → List ℕ → Result
+reconfigureCall pb b j a = planCall (toPlan (planOf pb) a) 0 pb b j a
+
+-- it "takes the former `Clocks` beside the head and gives the new one with the audio PLL pair unaltered, or the former on a refusal": the
+-- pair are the last two of the 15
+abbrev pub withAudioOf : List ℕ → List ℕ → List ℕ
+withAudioOf former clocks = take 13 clocks ++ drop 13 former
+
+unfoldable pub reconfigureClocks : List ℕ → List ℕ → List ℕ → List ℕ → List ℕ → List ℕ
+reconfigureClocks former pb b j a =
+    cond (eqb (reconfigureCall pb b j a .refusal) 0) (withAudioOf former (clocksOf (headAfter (toPlan (planOf pb) a) b))) former

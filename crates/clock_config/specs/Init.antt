@@ -1,0 +1,26 @@
+-- `init` of rcc/clock_config.rs, as a run. Assumes nothing.
+use Prim.Native.Nat.{ℕ}
+use mathlib.Core.Bool.{cond}
+use mathlib.Core.List.{List}
+use lib.Dec.{eqb}
+use Rattle.plan.specs.declared.Plan.{Plan}
+use Rattle.journal.specs.Run.{Run, Effect, idle, _▸_}
+use Rattle.clock_switch.specs.Switch.{dividers, toPlan}
+use Rattle.init_first.specs.First.{initBegin, bootStores, calibrating, warning, initFirst}
+use Rattle.init_rest.specs.Rest.{initRest}
+
+-- the plan's dividers first, the core clock, then the rest
+unfoldable pub initClock : Plan → List ℕ → Effect
+initClock p a = dividers p ▸ toPlan p a ▸ initRest p a
+
+-- all of it but for what every boot does
+unfoldable pub boot : Plan → List ℕ → Effect
+boot p a = initFirst p a ▸ initClock p a
+
+-- `PM_STANDBY_BOOT` is boot mode 3
+unfoldable pub init : Plan → List ℕ → Effect
+init p a r = (initBegin a ▸ cond (eqb (r .head .«boot_mode») 3) idle (boot p a)) r
+
+-- the 31 or 33 of its calibration that `init` reports beside done, or 0
+unfoldable pub initWarning : Plan → List ℕ → Run → ℕ
+initWarning p a r = cond (eqb (r .head .«boot_mode») 3) 0 (warning ((initBegin a ▸ (bootStores ▸ calibrating p a)) r .stop))

@@ -1,0 +1,39 @@
+-- `digits::hex::six_digits` meets its contract: each digit is the rest of another division by 16. Assumes nothing.
+use Rattle.lines.specs.Hex.{hexDigits}
+use borrow.Author.Needs.{needs}
+use Rattle.digits.proofs.hex.six_digits.Statement.{statement}
+use Rattle.digits.proofs.hex.six_digits.Tie as tie
+
+glyph-requires : tie.Need-glyph-requires
+glyph-requires c κs = search needs
+
+glyph-requires-2 : tie.Need-glyph-requires-2
+glyph-requires-2 c κs = search needs
+
+glyph-requires-3 : tie.Need-glyph-requires-3
+glyph-requires-3 c κs = search needs
+
+glyph-requires-4 : tie.Need-glyph-requires-4
+glyph-requires-4 c κs = search needs
+
+glyph-requires-5 : tie.Need-glyph-requires-5
+glyph-requires-5 c κs = search needs
+
+glyph-requires-6 : tie.Need-glyph-requires-6
+glyph-requires-6 c κs = search needs
+
+returns : tie.Need-returns
+unfolding hexDigits
+returns c = simp (c .glyph6 .ensures, c .before .glyph5 .ensures, c .before .before .glyph4 .ensures, c .before .before .before .glyph3 .ensures, c .before .before .before .before .glyph2 .ensures, c .before .before .before .before .before .glyph .ensures)
+
+pub six-digits-spec : {M : Type 1} → statement M
+six-digits-spec =
+    tie.close
+    (tie.spec
+    glyph-requires
+    glyph-requires-2
+    glyph-requires-3
+    glyph-requires-4
+    glyph-requires-5
+    glyph-requires-6
+    returns)

@@ -1,0 +1,27 @@
+-- `init_first::boot_stores` meets its contract: one store after the other. Assumes nothing.
+use Rattle.journal.proofs.Steps.{both-quiet}
+use Rattle.init_first.specs.First.{bootStores}
+use Rattle.init_first.proofs.Fits.{low-power-fits, lrc32-fits, buffer-fits}
+use borrow.Author.Needs.{needs}
+use Rattle.init_first.proofs.boot_stores.Statement.{statement}
+use Rattle.init_first.proofs.boot_stores.Tie as tie
+
+store-requires : tie.Need-store-requires
+store-requires c κs = (search needs, (search needs, lrc32-fits))
+
+store-requires-2 : tie.Need-store-requires-2
+store-requires-2 c κs = (search needs, (search needs, low-power-fits))
+
+store-requires-3 : tie.Need-store-requires-3
+store-requires-3 c κs = (search needs, (search needs, buffer-fits))
+
+same-length : tie.Need-same-length
+same-length c = search needs
+
+returns : tie.Need-returns
+unfolding bootStores
+returns c = both-quiet (both-quiet (c .before .before .before .before .before .before .before .before .before .before .store .ensures) (c .before .before .before .before .before .before .store2 .ensures)) (c .before .before .store3 .ensures)
+
+pub boot-stores-spec : {M : Type 1} → statement M
+boot-stores-spec =
+    tie.close (tie.spec store-requires store-requires-2 store-requires-3 same-length returns)

@@ -1,0 +1,55 @@
+-- What `init` of rcc/clock_config.rs does before it sets the core clock. Assumes nothing.
+use Prim.Native.Nat.{ℕ}
+use mathlib.Core.Path.{_≡_}
+use mathlib.Core.Bool.{Bool, cond, _||_}
+use mathlib.Core.List.{List}
+use lib.Dec.{eqb}
+use Rattle.plan.specs.declared.Plan.{Plan}
+use Rattle.clock_read.specs.Hpsys.{reg}
+use Rattle.journal.specs.declared.Machine.{Machine}
+use Rattle.journal.specs.Run.{Run, Effect, idle, halted, _▸_, store, waitHxt48}
+use Rattle.journal.specs.Machine.{Reached}
+use Rattle.calibration.specs.Calibration.{calibrateHrc48}
+
+-- where the core runs on HXT48 (1), its request and the wait for it
+unfoldable pub startHxt48 : List ℕ → Effect
+startHxt48 a r = cond (eqb (reg (r .head) 1) 1) (store 22 1 ▸ waitHxt48 a) idle r
+
+-- on every boot: that, and the peripheral clock on HXT48 (1)
+unfoldable pub initBegin : List ℕ → Effect
+initBegin a = startHxt48 a ▸ store 6 1
+
+-- LRC32 on, the low-power clock on Lrc32 (1), the DLL buffer on
+unfoldable pub bootStores : Effect
+bootStores = store 23 1 ▸ store 10 1 ▸ store 24 1
+
+-- away from HRC48 (0) to HXT48 (1), which must be ready: "32 `init` must calibrate on HRC48 without HXT48"
+unfoldable pub leaveHrc48 : Effect
+leaveHrc48 r = cond (eqb (reg (r .head) 1) 0) (cond (r .head .«hxt48_ready») (store 1 1) (halted 32)) idle r
+
+-- the calibration that a plan asks for
+unfoldable pub calibrating : Plan → List ℕ → Effect
+calibrating p a = cond (p .«hrc48_calibrate») (leaveHrc48 ▸ calibrateHrc48 a) idle
+
+-- "`init` swallows 31 and 33 of its calibration and reports them beside done; 34 and 36 end it."
+abbrev pub isWarning : ℕ → Bool
+isWarning stop = eqb stop 31 || eqb stop 33
+
+unfoldable pub warning : ℕ → ℕ
+warning stop = cond (isWarning stop) stop 0
+
+unfoldable pub swallowed : Effect
+swallowed r = record {
+  entries = r .entries;
+  head = r .head;
+  taken = r .taken;
+  stop = cond (isWarning (r .stop)) 0 (r .stop);
+}
+
+-- on all but a standby boot, up to the core clock
+unfoldable pub initFirst : Plan → List ℕ → Effect
+initFirst p a = bootStores ▸ calibrating p a ▸ swallowed
+
+-- `w` is the warning of the stop that the effect `f` comes to from the machine `m`
+pub record Warned (f : Effect) (m : Machine) (j : List ℕ) (w : ℕ) : Type 0 where
+  pub told : (r : Run) (j₀ : List ℕ) → Reached r j₀ m j → w ≡ warning (f r .stop)

@@ -1,0 +1,146 @@
+// rcc/clock_config.rs, `init` before the core clock: HXT48, the low-power clocks, calibration.
+ghost use mathlib.Core.Path.{_≡_};
+ghost use Prim.Native.Nat.{_≤_};
+ghost use lib.ListN.{length};
+ghost use Rattle.head.specs.Encodable.{Encodable};
+ghost use Rattle.journal.specs.Run.{_▸_};
+ghost use Rattle.journal.specs.Machine.{Ran, Quietly, Ready, Kept};
+ghost use Rattle.init_first.specs.First.{
+  startHxt48,
+  initBegin,
+  bootStores,
+  leaveHrc48,
+  calibrating,
+  isWarning,
+  warning,
+  swallowed,
+  initFirst,
+  Warned,
+};
+use journal::Machine;
+use plan::Plan;
+
+// A machine that has been calibrated, and 0, or the 31 or 33 that was swallowed.
+pub struct Calibrated {
+    pub machine: Machine,
+    pub warning: u8,
+}
+
+fn start_hxt48(m: Machine, journal: &mut [u32], answers: &[u16]) -> Machine
+    requires { ⌜ Ready 2 m (now journal) ⌝ }
+    requires { ⌜ (m .taken ≤ length (now answers)) × (length (now answers) ≤ 4096) ⌝ }
+    ensures { λ r. ⌜ Ran (startHxt48 (now (answers .entry))) m r (now (journal .entry)) (now (journal .exit)) ⌝ }
+    ensures { λ r. ⌜ Kept 2 m r ⌝ }
+    ensures { λ r. ⌜ r .taken ≤ length (now (answers .entry)) ⌝ }
+{
+    let head = m.head;
+    let select = head.regs[1];
+    if select != 1 {
+        return m;
+    }
+    let m = m.store(journal, 22, 1);
+    journal::wait_hxt48(m, journal, answers)
+}
+
+pub fn init_begin(m: Machine, journal: &mut [u32], answers: &[u16]) -> Machine
+    requires { ⌜ Ready 3 m (now journal) ⌝ }
+    requires { ⌜ (m .taken ≤ length (now answers)) × (length (now answers) ≤ 4096) ⌝ }
+    ensures { λ r. ⌜ Ran (initBegin (now (answers .entry))) m r (now (journal .entry)) (now (journal .exit)) ⌝ }
+    ensures { λ r. ⌜ Kept 3 m r ⌝ }
+    ensures { λ r. ⌜ r .taken ≤ length (now (answers .entry)) ⌝ }
+{
+    let m = start_hxt48(m, journal, answers);
+    m.store(journal, 6, 1)
+}
+
+fn boot_stores(m: Machine, journal: &mut [u32]) -> Machine
+    requires { ⌜ Ready 3 m (now journal) ⌝ }
+    ensures { λ r. ⌜ Ran bootStores m r (now (journal .entry)) (now (journal .exit)) ⌝ }
+    ensures { λ r. ⌜ Kept 3 m r ⌝ }
+    ensures { λ r. ⌜ r .taken ≡ m .taken ⌝ }
+{
+    let m = m.store(journal, 23, 1);
+    let m = m.store(journal, 10, 1);
+    m.store(journal, 24, 1)
+}
+
+fn leave_hrc48(m: Machine, journal: &mut [u32]) -> Machine
+    requires { ⌜ Ready 1 m (now journal) ⌝ }
+    ensures { λ r. ⌜ Ran leaveHrc48 m r (now (journal .entry)) (now (journal .exit)) ⌝ }
+    ensures { λ r. ⌜ Kept 1 m r ⌝ }
+    ensures { λ r. ⌜ r .taken ≡ m .taken ⌝ }
+{
+    let head = m.head;
+    let select = head.regs[1];
+    if select != 0 {
+        return m;
+    }
+    if head.hxt48_ready {
+        return m.store(journal, 1, 1);
+    }
+    m.refuse(32)
+}
+
+fn calibrate(m: Machine, journal: &mut [u32], answers: &[u16], p: Plan) -> Machine
+    requires { ⌜ Ready 58 m (now journal) ⌝ }
+    requires { ⌜ (m .taken ≤ length (now answers)) × (length (now answers) ≤ 4096) ⌝ }
+    ensures { λ r. ⌜ Ran (calibrating p (now (answers .entry))) m r (now (journal .entry)) (now (journal .exit)) ⌝ }
+    ensures { λ r. ⌜ Kept 58 m r ⌝ }
+    ensures { λ r. ⌜ r .taken ≤ length (now (answers .entry)) ⌝ }
+{
+    let asked = p.hrc48_calibrate;
+    if asked {
+        let m = leave_hrc48(m, journal);
+        return calibration::calibrate_in_rest(m, journal, answers);
+    }
+    m
+}
+
+fn is_warning(stop: u8) -> bool
+    ensures { λ r. ⌜ r ≡ isWarning stop ⌝ }
+{
+    if stop == 31 {
+        return true;
+    }
+    stop == 33
+}
+
+// 31 and 33 end the calibration, not `init`.
+fn swallow(m: Machine) -> Calibrated
+    requires { ⌜ Encodable (m .head) ⌝ }
+    ensures { λ r. ⌜ Quietly swallowed m (r .machine) ⌝ }
+    ensures { λ r. ⌜ Kept 0 m (r .machine) ⌝ }
+    ensures { λ r. ⌜ (r .machine .taken ≡ m .taken) × (r .warning ≡ warning (m .stop)) ⌝ }
+{
+    let stop = m.stop;
+    let head = m.head;
+    if is_warning(stop) {
+        let machine = Machine {
+            head,
+            at: m.at,
+            taken: m.taken,
+            stop: 0,
+        };
+        return Calibrated {
+            machine,
+            warning: stop,
+        };
+    }
+    Calibrated {
+        machine: m,
+        warning: 0,
+    }
+}
+
+pub fn init_first(m: Machine, journal: &mut [u32], answers: &[u16], p: Plan) -> Calibrated
+    requires { ⌜ Ready 61 m (now journal) ⌝ }
+    requires { ⌜ (m .taken ≤ length (now answers)) × (length (now answers) ≤ 4096) ⌝ }
+    ensures { λ r. ⌜ Ran (initFirst p (now (answers .entry))) m (r .machine) (now (journal .entry)) (now (journal .exit)) ⌝ }
+    ensures { λ r. ⌜ Kept 61 m (r .machine) ⌝ }
+    ensures { λ r. ⌜ r .machine .taken ≤ length (now (answers .entry)) ⌝ }
+    ensures { λ r. ⌜ Warned (bootStores ▸ calibrating p (now (answers .entry))) m (now (journal .entry)) (r .warning) ⌝ }
+{
+    let m = boot_stores(m, journal);
+    let m = calibrate(m, journal, answers, p);
+    swallow(m)
+}

@@ -1,0 +1,28 @@
+-- `init_rest::move_dll2` meets its contract: one step after the other. Assumes nothing.
+use native.Mathlib.Omega.{arith}
+use Rattle.register.proofs.Fits.{zero-fits}
+use Rattle.journal.proofs.Steps.{both, then-quiet}
+use Rattle.init_rest.specs.Rest.{moveDll2}
+use borrow.Author.Needs.{needs}
+use Rattle.init_rest.proofs.move_dll2.Statement.{statement}
+use Rattle.init_rest.proofs.move_dll2.Tie as tie
+
+store-requires : tie.Need-store-requires
+store-requires c κs = (search needs, (search needs, zero-fits 5 (omega arith)))
+
+configure-dll-requires : tie.Need-configure-dll-requires
+configure-dll-requires c κs = search needs
+
+store-requires-2 : tie.Need-store-requires-2
+store-requires-2 c κs = search needs
+
+same-length : tie.Need-same-length
+same-length c = search needs
+
+returns : tie.Need-returns
+unfolding moveDll2
+returns c = then-quiet (both (c .before .before .before .before .before .before .before .before .before .before .store .ensures) (c .before .before .before .before .before .before .configure-dll .ensures)) (c .before .before .store2 .ensures)
+
+pub move-dll2-spec : {M : Type 1} → statement M
+move-dll2-spec =
+    tie.close (tie.spec store-requires configure-dll-requires store-requires-2 same-length returns)

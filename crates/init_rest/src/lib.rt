@@ -1,0 +1,148 @@
+// rcc/clock_config.rs, `init` after the core clock: DLL2, USB, the other selects.
+ghost use mathlib.Core.Path.{_≡_};
+ghost use mathlib.Core.Bool.{true};
+ghost use Prim.Native.Nat.{_≤_};
+ghost use lib.ListN.{length};
+ghost use Rattle.plan.specs.Plan.{legal, stageOf};
+ghost use Rattle.plan_clocks.specs.Clocks.{usbDivider};
+ghost use Rattle.register.specs.Codes.{fitsRegister};
+ghost use Rattle.journal.specs.Machine.{Ran, Ready, Kept};
+ghost use Rattle.init_rest.specs.Rest.{
+  isSet,
+  backTo,
+  flashBack,
+  moveDll2,
+  setDll2,
+  plannedDll2,
+  plannedUsb,
+  plannedMuxes,
+  initRest,
+};
+use clock::Dll;
+use clock::MaybeDll;
+use journal::Machine;
+use plan::Plan;
+
+const FLASH_DLL2: u32 = 2;
+
+fn is_set(d: Dll, word: u32) -> bool
+    ensures { λ r. ⌜ r ≡ isSet d word ⌝ }
+{
+    let stage = d.stage;
+    let half = d.half;
+    if head::a(word) != 1 {
+        return false;
+    }
+    if head::c(word) != stage as u32 {
+        return false;
+    }
+    if half {
+        return head::b(word) == 1;
+    }
+    head::b(word) == 0
+}
+
+fn back_to(select: u32) -> u32
+    ensures { λ r. ⌜ (r ≡ backTo select) × (r ≤ 2) ⌝ }
+{
+    if select == FLASH_DLL2 {
+        return FLASH_DLL2;
+    }
+    0
+}
+
+fn flash_back(old: u32) -> u32
+    ensures { λ r. ⌜ (r ≡ flashBack old) × (fitsRegister 5 r ≡ true) ⌝ }
+{
+    head::word(0, back_to(head::b(old)), back_to(head::c(old)))
+}
+
+// The flash selects leave DLL2 while it is set anew.
+fn move_dll2(m: Machine, journal: &mut [u32], answers: &[u16], d: Dll, back: u32) -> Machine
+    requires { ⌜ Ready 8 m (now journal) ⌝ }
+    requires { ⌜ (m .taken ≤ length (now answers)) × (length (now answers) ≤ 4096) ⌝ }
+    requires { ⌜ (d .stage ≤ 15) × (fitsRegister 5 back ≡ true) ⌝ }
+    ensures { λ r. ⌜ Ran (moveDll2 d back (now (answers .entry))) m r (now (journal .entry)) (now (journal .exit)) ⌝ }
+    ensures { λ r. ⌜ Kept 8 m r ⌝ }
+    ensures { λ r. ⌜ r .taken ≤ length (now (answers .entry)) ⌝ }
+{
+    let m = m.store(journal, 5, 0);
+    let m = dll::configure_dll(m, journal, answers, 4, d);
+    m.store(journal, 5, back)
+}
+
+fn set_dll2(m: Machine, journal: &mut [u32], answers: &[u16], d: Dll) -> Machine
+    requires { ⌜ Ready 8 m (now journal) ⌝ }
+    requires { ⌜ (m .taken ≤ length (now answers)) × (length (now answers) ≤ 4096) ⌝ }
+    requires { ⌜ d .stage ≤ 15 ⌝ }
+    ensures { λ r. ⌜ Ran (setDll2 d (now (answers .entry))) m r (now (journal .entry)) (now (journal .exit)) ⌝ }
+    ensures { λ r. ⌜ Kept 8 m r ⌝ }
+    ensures { λ r. ⌜ r .taken ≤ length (now (answers .entry)) ⌝ }
+{
+    let head = m.head;
+    let word = head.regs[4];
+    if is_set(d, word) {
+        return m;
+    }
+    let back = flash_back(head.regs[5]);
+    move_dll2(m, journal, answers, d, back)
+}
+
+fn configure_dll2(m: Machine, journal: &mut [u32], answers: &[u16], dll2: MaybeDll) -> Machine
+    requires { ⌜ Ready 8 m (now journal) ⌝ }
+    requires { ⌜ (m .taken ≤ length (now answers)) × (length (now answers) ≤ 4096) ⌝ }
+    requires { ⌜ stageOf dll2 ≤ 15 ⌝ }
+    ensures { λ r. ⌜ Ran (plannedDll2 dll2 (now (answers .entry))) m r (now (journal .entry)) (now (journal .exit)) ⌝ }
+    ensures { λ r. ⌜ Kept 8 m r ⌝ }
+    ensures { λ r. ⌜ r .taken ≤ length (now (answers .entry)) ⌝ }
+{
+    let MaybeDll::Present(d) = dll2 else {
+        return m;
+    };
+    set_dll2(m, journal, answers, d)
+}
+
+fn configure_usb(m: Machine, journal: &mut [u32], p: Plan, usb_div: u8) -> Machine
+    requires { ⌜ Ready 2 m (now journal) ⌝ }
+    requires { ⌜ legal p ≡ true ⌝ }
+    requires { ⌜ («usb_div» ≡ usbDivider p) × («usb_div» ≤ 7) ⌝ }
+    ensures { λ r. ⌜ Ran (plannedUsb p) m r (now (journal .entry)) (now (journal .exit)) ⌝ }
+    ensures { λ r. ⌜ Kept 2 m r ⌝ }
+    ensures { λ r. ⌜ r .taken ≡ m .taken ⌝ }
+{
+    let usb = p.usb;
+    let usbsel = p.usbsel as u32;
+    if usb {
+        let m = m.store(journal, 8, usb_div as u32);
+        return m.store(journal, 7, usbsel);
+    }
+    m
+}
+
+fn configure_muxes(m: Machine, journal: &mut [u32], p: Plan) -> Machine
+    requires { ⌜ Ready 3 m (now journal) ⌝ }
+    requires { ⌜ legal p ≡ true ⌝ }
+    ensures { λ r. ⌜ Ran (plannedMuxes p) m r (now (journal .entry)) (now (journal .exit)) ⌝ }
+    ensures { λ r. ⌜ Kept 3 m r ⌝ }
+    ensures { λ r. ⌜ r .taken ≡ m .taken ⌝ }
+{
+    let perisel = p.perisel as u32;
+    let wdtsel = p.wdtsel as u32;
+    let m = m.store(journal, 6, perisel);
+    let m = m.store(journal, 10, wdtsel);
+    m.store(journal, 9, 0)
+}
+
+pub fn init_rest(m: Machine, journal: &mut [u32], answers: &[u16], p: Plan, usb_div: u8) -> Machine
+    requires { ⌜ Ready 13 m (now journal) ⌝ }
+    requires { ⌜ (m .taken ≤ length (now answers)) × (length (now answers) ≤ 4096) ⌝ }
+    requires { ⌜ (legal p ≡ true) × ((«usb_div» ≡ usbDivider p) × («usb_div» ≤ 7)) ⌝ }
+    ensures { λ r. ⌜ Ran (initRest p (now (answers .entry))) m r (now (journal .entry)) (now (journal .exit)) ⌝ }
+    ensures { λ r. ⌜ Kept 13 m r ⌝ }
+    ensures { λ r. ⌜ r .taken ≤ length (now (answers .entry)) ⌝ }
+{
+    let dll2 = p.dll2;
+    let m = configure_dll2(m, journal, answers, dll2);
+    let m = configure_usb(m, journal, p, usb_div);
+    configure_muxes(m, journal, p)
+}

@@ -1,0 +1,33 @@
+-- Effects that do nothing on a call that has ended. Assumes nothing.
+use Prim.Native.Nat.{ℕ}
+use mathlib.Core.Path.{_≡_, ap, sym, _∙_}
+use mathlib.Core.List.{List}
+use Rattle.journal.specs.declared.Machine.{Machine}
+use Rattle.journal.specs.Run.{Run, Effect, _▸_, going, store, delay, measure}
+use Rattle.journal.specs.Machine.{Ran}
+use Rattle.journal.proofs.Reached.{going-ended, ran-as, ran-idle}
+
+pub record Still (f : Effect) : Type 0 where
+  pub stays : (r : Run) → (r .stop ≡ 0 → ⊥) → f r ≡ r
+
+pub still-going : (f : Effect) → Still (going f)
+still-going f = record { stays = going-ended f }
+
+pub still-then : {f g : Effect} → Still f → Still g → Still (f ▸ g)
+still-then {f} {g} x y = record { stays = λ r e. ap g (x .stays r e) ∙ y .stays r e }
+
+pub still-store : (n v : ℕ) → Still (store n v)
+unfolding store
+still-store n v = still-going _
+
+pub still-delay : (us : ℕ) → Still (delay us)
+unfolding delay
+still-delay us = still-going _
+
+pub still-measure : (a : List ℕ) → Still (measure a)
+unfolding measure
+still-measure a = still-going _
+
+-- code that does nothing once the call has ended
+pub ran-still : {f : Effect} → Still f → (m : Machine) (j : List ℕ) → (m .stop ≡ 0 → ⊥) → Ran f m m j j
+ran-still {f} x m j e = ran-as (λ r q. sym (x .stays r (λ z. e (ap (λ (w : Machine). w .stop) q ∙ z)))) (ran-idle m j)

@@ -1,0 +1,69 @@
+-- `lpsys_setters::config_lpsys_mac_clock` meets its contract: the shared tests, then the store. Assumes nothing.
+use native.Mathlib.Omega.{arith}
+use mathlib.Core.Path.{refl, sym, ap, _∙_}
+use mathlib.Core.List.{[]}
+use borrow.Author.Tests.{lt-ltb, le-ltb}
+use Rattle.record.specs.Refusals.{firstOf}
+use Rattle.record.proofs.Refusals.{no-test}
+use Rattle.call.proofs.Ending.{call-unadmitted, call-refused, call-ran, call-encodable, call-bytes}
+use Rattle.call.proofs.Admitting.{journal-room, started}
+use Rattle.lpsys_setters.specs.Setters.{configMac}
+use Rattle.lpsys_setters.proofs.Fits.{mac-fits}
+use borrow.Author.Needs.{needs}
+use Rattle.lpsys_setters.proofs.config_lpsys_mac_clock.Statement.{statement}
+use Rattle.lpsys_setters.proofs.config_lpsys_mac_clock.Tie as tie
+
+admit-requires : tie.Need-admit-requires
+admit-requires c κs = search needs
+
+refused-requires : tie.Need-refused-requires
+refused-requires c κs = search needs
+
+same-length : tie.Need-same-length
+same-length c = search needs
+
+same-length-2 : tie.Need-same-length-2
+same-length-2 c = search needs
+
+returns : tie.Need-returns
+unfolding configMac
+returns c = call-unadmitted (c .before .before .before .admit .ensures) [] _ _ _ _ (c .before .if1 .taken) (c .refused .ensures)
+
+word-requires : tie.Need-word-requires
+word-requires c κs = search needs
+
+start-requires : tie.Need-start-requires
+start-requires c κs = search needs
+
+store-requires : tie.Need-store-requires
+store-requires c κs = (started 1 _ _ _ (c .before .start .ensures) (call-encodable (c .before .before .before .before .before .before .admit .ensures) (c .before .before .before .before .if1 .left)) (omega arith) (journal-room (c .before .before .before .before .before .before .before .before .before .before .before .args .buffer .now) (c .before .before .before .before .before .before .before .before .before .before .before .args .journal .now) (c .before .before .before .before .before .before .admit .ensures) (c .before .before .before .before .if1 .left)), (search needs, rw (c .before .before .word .ensures) (mac-fits _ _ (search needs) (search needs))))
+
+finish-requires : tie.Need-finish-requires
+finish-requires c κs = (c .before .before .before .store .ensures .1 .0 .encodable, call-bytes (c .before .before .before .before .before .before .before .before .before .before .admit .ensures) (c .before .before .before .before .before .before .before .before .if1 .left))
+
+same-length-3 : tie.Need-same-length-3
+same-length-3 c = search needs
+
+same-length-4 : tie.Need-same-length-4
+same-length-4 c = search needs
+
+returns-2 : tie.Need-returns-2
+unfolding configMac
+returns-2 c = call-ran (c .before .before .before .before .before .before .before .before .before .before .before .before .before .admit .ensures) [] _ _ _ _ _ _ _ _ (c .before .before .before .before .before .before .before .before .before .before .before .if1 .left) no-test (c .before .before .before .before .before .before .before .before .start .ensures) (rw (c .before .before .before .before .before .before .before .before .before .word .ensures) at (c .before .before .before .before .before .before .store .ensures .0)) (c .before .before .finish .ensures)
+
+pub config-lpsys-mac-clock-spec : {M : Type 1} → statement M
+config-lpsys-mac-clock-spec =
+    tie.close
+    (tie.spec
+    admit-requires
+    refused-requires
+    same-length
+    same-length-2
+    returns
+    word-requires
+    start-requires
+    store-requires
+    finish-requires
+    same-length-3
+    same-length-4
+    returns-2)

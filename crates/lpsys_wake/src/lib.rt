@@ -1,0 +1,129 @@
+// Waking the LPSYS core, and its crystal, on a running call.
+ghost use mathlib.Core.Path.{_≡_};
+ghost use Prim.Native.Nat.{_≤_};
+ghost use lib.ListN.{length};
+ghost use Rattle.head.specs.Encodable.{Encodable};
+ghost use Rattle.journal.specs.Machine.{Ran, Quietly, Ready, Kept};
+ghost use Rattle.lpsys_wake.specs.Wake.{countUp, countDown, wakeFirst, wake, cancel, requestHxt48, requestLpsysHxt48, hxt48Ready};
+use journal::Machine;
+
+fn count_up(m: Machine) -> Machine
+    requires { ⌜ Encodable (m .head) ⌝ }
+    ensures { λ r. ⌜ Quietly countUp m r ⌝ }
+    ensures { λ r. ⌜ Kept 0 m r ⌝ }
+    ensures { λ r. ⌜ r .taken ≡ m .taken ⌝ }
+{
+    let ended = m.stop;
+    if ended != 0 {
+        return m;
+    }
+    let mut head = m.head;
+    let count = head.wake_count;
+    head.wake_count = ((count as u32 + 1) % 256) as u8;
+    Machine {
+        head,
+        at: m.at,
+        taken: m.taken,
+        stop: 0,
+    }
+}
+
+fn count_down(m: Machine) -> Machine
+    requires { ⌜ Encodable (m .head) ⌝ }
+    ensures { λ r. ⌜ Quietly countDown m r ⌝ }
+    ensures { λ r. ⌜ Kept 0 m r ⌝ }
+    ensures { λ r. ⌜ r .taken ≡ m .taken ⌝ }
+{
+    let stop = m.stop;
+    if stop != 0 {
+        return m;
+    }
+    let mut head = m.head;
+    let count = head.wake_count;
+    head.wake_count = ((count as u32 + 255) % 256) as u8;
+    Machine {
+        head,
+        at: m.at,
+        taken: m.taken,
+        stop: 0,
+    }
+}
+
+// The request, and the first wait for the LPSYS core to be active.
+fn wake_first(m: Machine, journal: &mut [u32], answers: &[u16]) -> Machine
+    requires { ⌜ Ready 3 m (now journal) ⌝ }
+    requires { ⌜ (m .taken ≤ length (now answers)) × (length (now answers) ≤ 4096) ⌝ }
+    ensures { λ r. ⌜ Ran (wakeFirst (now (answers .entry))) m r (now (journal .entry)) (now (journal .exit)) ⌝ }
+    ensures { λ r. ⌜ Kept 3 m r ⌝ }
+    ensures { λ r. ⌜ r .taken ≤ length (now (answers .entry)) ⌝ }
+{
+    let m = m.store(journal, 33, 1);
+    let m = journal::delay_us(m, journal, 230);
+    journal::wait_for(m, journal, answers, 6)
+}
+
+pub fn wake(m: Machine, journal: &mut [u32], answers: &[u16]) -> Machine
+    requires { ⌜ Ready 5 m (now journal) ⌝ }
+    requires { ⌜ (m .taken ≤ length (now answers)) × (length (now answers) ≤ 4096) ⌝ }
+    ensures { λ r. ⌜ Ran (wake (now (answers .entry))) m r (now (journal .entry)) (now (journal .exit)) ⌝ }
+    ensures { λ r. ⌜ Kept 5 m r ⌝ }
+{
+    let m = wake_first(m, journal, answers);
+    let m = journal::delay_us(m, journal, 30);
+    let m = journal::wait_for(m, journal, answers, 6);
+    count_up(m)
+}
+
+pub fn cancel(m: Machine, journal: &mut [u32]) -> Machine
+    requires { ⌜ Ready 1 m (now journal) ⌝ }
+    ensures { λ r. ⌜ Ran cancel m r (now (journal .entry)) (now (journal .exit)) ⌝ }
+    ensures { λ r. ⌜ Kept 1 m r ⌝ }
+{
+    let head = m.head;
+    let count = head.wake_count;
+    let m = count_down(m);
+    if count == 1 {
+        return m.store(journal, 33, 0);
+    }
+    m
+}
+
+fn request_hxt48(m: Machine, journal: &mut [u32], answers: &[u16]) -> Machine
+    requires { ⌜ Ready 2 m (now journal) ⌝ }
+    requires { ⌜ (m .taken ≤ length (now answers)) × (length (now answers) ≤ 4096) ⌝ }
+    ensures { λ r. ⌜ Ran (requestHxt48 (now (answers .entry))) m r (now (journal .entry)) (now (journal .exit)) ⌝ }
+    ensures { λ r. ⌜ Kept 2 m r ⌝ }
+    ensures { λ r. ⌜ r .taken ≤ length (now (answers .entry)) ⌝ }
+{
+    let head = m.head;
+    if head.hxt48_ready {
+        return m;
+    }
+    let m = m.store(journal, 22, 1);
+    journal::wait_hxt48(m, journal, answers)
+}
+
+fn request_lpsys_hxt48(m: Machine, journal: &mut [u32], answers: &[u16]) -> Machine
+    requires { ⌜ Ready 2 m (now journal) ⌝ }
+    requires { ⌜ (m .taken ≤ length (now answers)) × (length (now answers) ≤ 4096) ⌝ }
+    ensures { λ r. ⌜ Ran (requestLpsysHxt48 (now (answers .entry))) m r (now (journal .entry)) (now (journal .exit)) ⌝ }
+    ensures { λ r. ⌜ Kept 2 m r ⌝ }
+    ensures { λ r. ⌜ r .taken ≤ length (now (answers .entry)) ⌝ }
+{
+    let head = m.head;
+    if head.lpsys_hxt48_ready {
+        return m;
+    }
+    let m = m.store(journal, 32, 1);
+    journal::wait_lpsys_hxt48(m, journal, answers)
+}
+
+pub fn hxt48_ready(m: Machine, journal: &mut [u32], answers: &[u16]) -> Machine
+    requires { ⌜ Ready 4 m (now journal) ⌝ }
+    requires { ⌜ (m .taken ≤ length (now answers)) × (length (now answers) ≤ 4096) ⌝ }
+    ensures { λ r. ⌜ Ran (hxt48Ready (now (answers .entry))) m r (now (journal .entry)) (now (journal .exit)) ⌝ }
+    ensures { λ r. ⌜ Kept 4 m r ⌝ }
+{
+    let m = request_hxt48(m, journal, answers);
+    request_lpsys_hxt48(m, journal, answers)
+}

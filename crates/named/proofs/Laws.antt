@@ -1,0 +1,43 @@
+-- What every call has in common. Assumes nothing.
+use Prim.Native.Nat.{ℕ, _≤_}
+use mathlib.Core.List.{List}
+use native.Mathlib.Omega.{arith}
+use lib.ListN.{length}
+use Rattle.call.specs.declared.Answer.{Answer}
+use Rattle.call.specs.Call.{Answers}
+use Rattle.call.proofs.Entries.{performed-within}
+use Rattle.lpsys_setters.specs.Setters.{setLpsysHdiv, setLpsysDiv, configMac, select}
+use Rattle.clock_lpsys.specs.Calls.{lpsysRequest, safeFrequency, wakeLcpu, cancelLcpu, ensureHxt48}
+use Rattle.named.specs.declared.Call.{Call}
+use Rattle.named.specs.declared.Call.the-variants.{Request, Safe, Wake, Cancel, Hxt48, Hdiv, Div, Mac, Sysclk, Peri}
+use Rattle.named.specs.Calls.{formOf, resultOf}
+
+-- no call is given more than three numbers
+pub numbers-most : (call : Call) → formOf call .numbers ≤ 3
+numbers-most Request = omega arith
+numbers-most Safe = omega arith
+numbers-most Wake = omega arith
+numbers-most Cancel = omega arith
+numbers-most Hxt48 = omega arith
+numbers-most Hdiv = omega arith
+numbers-most Div = omega arith
+numbers-most Mac = omega arith
+numbers-most Sysclk = omega arith
+numbers-most Peri = omega arith
+
+result-within : (call : Call) (ns b j a : List ℕ) → resultOf call ns b j a .entries ≤ length (resultOf call ns b j a .journal)
+unfolding lpsysRequest safeFrequency wakeLcpu cancelLcpu ensureHxt48 setLpsysHdiv setLpsysDiv configMac select
+result-within Request ns b j a = performed-within _ _ _ b j
+result-within Safe ns b j a = performed-within _ _ _ b j
+result-within Wake ns b j a = performed-within _ _ _ b j
+result-within Cancel ns b j a = performed-within _ _ _ b j
+result-within Hxt48 ns b j a = performed-within _ _ _ b j
+result-within Hdiv ns b j a = performed-within _ _ _ b j
+result-within Div ns b j a = performed-within _ _ _ b j
+result-within Mac ns b j a = performed-within _ _ _ b j
+result-within Sysclk ns b j a = performed-within _ _ _ b j
+result-within Peri ns b j a = performed-within _ _ _ b j
+
+-- the entries of a call lie in the journal that it leaves
+pub entries-within : (call : Call) (ns b j a b' j' : List ℕ) (r : Answer) → Answers (resultOf call ns b j a) r b' j' → r .entries ≤ length j'
+entries-within call ns b j a b' j' r x = rw (x .entries, x .journal) (result-within call ns b j a)

@@ -1,0 +1,77 @@
+// A task, and the rules of tasks.
+ghost use mathlib.Core.Path.{_≡_};
+ghost use Prim.Native.Nat.{_≤_};
+ghost use lib.ListN.{take, drop};
+ghost use Rattle.task.specs.Task.{taskOk, allOk, hasId, distinct};
+
+pub struct Task {
+    pub id: u8,
+    pub cycles: u32,
+    pub period: u32,
+}
+
+// A task that a booking would not refuse by 16.
+pub fn ok(task: Task) -> bool
+    ensures { λ r. ⌜ r ≡ taskOk task ⌝ }
+{
+    if task.id == 0 {
+        return false;
+    }
+    if task.cycles == 0 {
+        return false;
+    }
+    if task.period == 0 {
+        return false;
+    }
+    task.period <= 10000000
+}
+
+// Whether each of the first `count` tasks is such a task.
+pub fn all_ok(tasks: [Task; 16], count: u8) -> bool
+    requires { ⌜ count ≤ 16 ⌝ }
+    ensures { λ r. ⌜ r ≡ allOk (take count tasks) ⌝ }
+{
+    let end = count as usize;
+    let mut i = 0;
+    while i < end {
+        if !ok(tasks[i]) {
+            return false;
+        }
+        i += 1;
+    }
+    true
+}
+
+// Whether one of the tasks from `from` on, up to `count`, has the id.
+pub fn has_id(tasks: [Task; 16], from: usize, count: u8, id: u8) -> bool
+    requires { ⌜ (from ≤ count) × (count ≤ 16) ⌝ }
+    ensures { λ r. ⌜ r ≡ hasId id (drop from (take count tasks)) ⌝ }
+{
+    let end = count as usize;
+    let mut i = from;
+    while i < end {
+        let task = tasks[i];
+        if task.id == id {
+            return true;
+        }
+        i += 1;
+    }
+    false
+}
+
+// Whether no two of the first `count` tasks have the same id.
+pub fn distinct(tasks: [Task; 16], count: u8) -> bool
+    requires { ⌜ count ≤ 16 ⌝ }
+    ensures { λ r. ⌜ r ≡ distinct (take count tasks) ⌝ }
+{
+    let end = count as usize;
+    let mut i = 0;
+    while i < end {
+        let task = tasks[i];
+        if has_id(tasks, i + 1, count, task.id) {
+            return false;
+        }
+        i += 1;
+    }
+    true
+}

@@ -1,0 +1,91 @@
+-- A number of four bytes and a task are read from their bytes as they were written. Assumes nothing.
+use Prim.Native.Nat.{ℕ, suc, _+_, _/_, _%_, _≤_, _<_}
+use mathlib.Core.Path.{_≡_, refl, ap, sym, _∙_}
+use mathlib.Core.List.{List, [], _∷_, _++_}
+use native.Mathlib.Omega.{arith}
+use native.Mathlib.Nat.{add-zero, div-div-eq-div-mul}
+use lib.ListN.{length, getD, take, drop, set, length-drop}
+use lib.Seq.{take-add, getD-drop}
+use Rattle.record.specs.Bytes.{Bytes}
+use Rattle.record.specs.Items.{laid}
+use Rattle.record.proofs.Laid.{laid-sets, laid-next}
+use Rattle.task.specs.declared.Task.{Task}
+use Rattle.task.specs.Task.{InBytes}
+use Rattle.task_bytes.specs.Four.{fourOf, fourBytes, fourIn}
+use Rattle.task_bytes.specs.Tasks.{taskIn, taskBytes}
+
+-- nine bytes
+pub task-length : (t : Task) → length (taskBytes t) ≡ 9
+unfolding taskBytes fourBytes
+task-length t = refl
+
+pub four-of-bytes : (n : ℕ) (rest : List ℕ) → n < 4294967296 → fourIn (fourBytes n ++ rest) ≡ n
+unfolding fourIn fourBytes
+four-of-bytes n rest h = rw (← div-div-eq-div-mul n 65536 256, ← div-div-eq-div-mul n 256 256) (omega arith)
+
+pub bytes-of-four : (b : List ℕ) → 4 ≤ length b → Bytes b → fourBytes (fourIn b) ≡ take 4 b
+unfolding fourIn fourBytes
+bytes-of-four [] h bytes = absurd (omega arith)
+bytes-of-four (x ∷ []) h bytes = absurd (omega arith)
+bytes-of-four (x ∷ y ∷ []) h bytes = absurd (omega arith)
+bytes-of-four (x ∷ y ∷ z ∷ []) h bytes = absurd (omega arith)
+bytes-of-four (x ∷ y ∷ z ∷ w ∷ b) h bytes =
+    let p = bytes 0 in
+    let q = bytes 1 in
+    let r = bytes 2 in
+    let s = bytes 3 in
+    let a : fourOf x y z w / 16777216 % 256 ≡ x = omega arith in
+    let b : fourOf x y z w / 65536 % 256 ≡ y = omega arith in
+    let c : fourOf x y z w / 256 % 256 ≡ z = omega arith in
+    let d : fourOf x y z w % 256 ≡ w = omega arith in
+    rw (a, b, c, d)
+
+pub task-of-bytes : (t : Task) (rest : List ℕ) → InBytes t → taskIn (taskBytes t ++ rest) ≡ t
+unfolding taskIn taskBytes fourBytes
+task-of-bytes t rest h =
+    rw (four-of-bytes (t .cycles) (fourBytes (t .period) ++ rest) (h .cycles), four-of-bytes (t .period) rest (h .period))
+
+pub bytes-of-task : (b : List ℕ) → 9 ≤ length b → Bytes b → taskBytes (taskIn b) ≡ take 9 b
+unfolding taskIn taskBytes
+bytes-of-task [] h bytes = absurd (omega arith)
+bytes-of-task (x ∷ b) h bytes =
+    rw (
+      bytes-of-four b (omega arith) (λ i. bytes (suc i)),
+      bytes-of-four (drop 4 b) (rw length-drop (omega arith)) (λ i. rw getD-drop (bytes (suc (4 + i)))),
+    )
+    (ap (λ (l : List ℕ). x ∷ l) (sym (take-add 4 4 b)))
+
+-- a task is read from its own bytes only
+four-same : (b d : List ℕ) → ((i : ℕ) → i < 4 → getD b i 0 ≡ getD d i 0) → fourIn b ≡ fourIn d
+unfolding fourIn
+four-same b d agree = rw (agree 0 (omega arith), agree 1 (omega arith), agree 2 (omega arith), agree 3 (omega arith))
+
+pub task-same : (b d : List ℕ) → ((i : ℕ) → i < 9 → getD b i 0 ≡ getD d i 0) → taskIn b ≡ taskIn d
+unfolding taskIn
+task-same b d agree = rw (agree 0 (omega arith), four 1 (omega arith), four 5 (omega arith))
+  where
+    four : (k : ℕ) → k + 4 ≤ 9 → fourIn (drop k b) ≡ fourIn (drop k d)
+    four k h = four-same (drop k b) (drop k d) (λ i l. getD-drop k b i 0 ∙ (agree (k + i) (omega arith) ∙ sym (getD-drop k d i 0)))
+
+-- the bytes of a task at a place
+pub task-at : (b : List ℕ) (at : ℕ) →
+    record {
+      id = getD b at 0;
+      cycles = fourOf (getD b (at + 1) 0) (getD b (at + 2) 0) (getD b (at + 3) 0) (getD b (at + 4) 0);
+      period = fourOf (getD b (at + 5) 0) (getD b (at + 6) 0) (getD b (at + 7) 0) (getD b (at + 8) 0);
+    }
+    ≡ taskIn (drop at b)
+unfolding taskIn fourIn
+task-at b at = simp (getD-drop, add-zero)
+
+-- a task's bytes, its id, cycles and period one after the other
+pub task-laid : (at : ℕ) (t : Task) (b : List ℕ) → at + 9 ≤ length b →
+    laid (at + 5) (fourBytes (t .period)) (laid (at + 1) (fourBytes (t .cycles)) (set b at (t .id))) ≡ laid at (taskBytes t) b
+unfolding taskBytes fourBytes
+task-laid at t b h =
+    let id : List ℕ = t .id ∷ [] in
+    rw (
+      laid-sets at id b (omega arith),
+      laid-next at id (fourBytes (t .cycles)) b (omega arith),
+      laid-next at (id ++ fourBytes (t .cycles)) (fourBytes (t .period)) b (omega arith),
+    )

@@ -1,0 +1,19 @@
+-- Laws of the places of tasks. Assumes nothing.
+use Prim.Native.Nat.{ℕ, _-_}
+use mathlib.Core.Path.{_≡_}
+use mathlib.Core.List.{List}
+use lib.ListN.{length, take, drop, replicate}
+use lib.Seq.{take-at}
+use Rattle.record.proofs.Items.{items-length}
+use Rattle.task.specs.Task.{noTask}
+use Rattle.task_bytes.specs.Tasks.{taskIn, firstTask, countIn, tasksIn, placesIn}
+
+-- as many tasks as the count says
+pub tasks-length : (b : List ℕ) → length (tasksIn b) ≡ countIn b
+unfolding tasksIn
+tasks-length b = items-length taskIn 9 (countIn b) (drop firstTask b)
+
+-- the booked ones of the sixteen places
+pub places-booked : (b : List ℕ) → take (countIn b) (placesIn b) ≡ tasksIn b
+unfolding placesIn
+places-booked b = take-at (tasksIn b) (replicate (16 - countIn b) noTask) (countIn b) (tasks-length b)

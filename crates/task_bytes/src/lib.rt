@@ -1,0 +1,106 @@
+// The booked tasks of a head record: their bytes and their places.
+ghost use mathlib.Core.Path.{_≡_};
+ghost use Prim.Native.Nat.{_+_, _≤_};
+ghost use lib.ListN.{length, take, drop};
+ghost use Rattle.register.specs.Registers.{bufferBytes};
+ghost use Rattle.record.specs.Items.{joined, laid};
+ghost use Rattle.task_bytes.specs.Four.{fourOf, fourBytes};
+ghost use Rattle.task_bytes.specs.Tasks.{taskIn, taskBytes, firstTask, countIn, placesIn, tasksFit};
+use task::Task;
+
+const FIRST_TASK: usize = 111;
+
+fn four_bytes(a: u8, b: u8, c: u8, d: u8) -> u32
+    ensures { λ r. ⌜ r ≡ fourOf a b c d ⌝ }
+{
+    (a as u32) * 16777216 + ((b as u32) * 65536 + ((c as u32) * 256 + (d as u32)))
+}
+
+// The task at a place of a record.
+pub fn task_at(buffer: &[u8], at: usize) -> Task
+    requires { ⌜ at + 9 ≤ length (now buffer) ⌝ }
+    ensures { λ r. ⌜ r ≡ taskIn (drop at (now (buffer .entry))) ⌝ }
+{
+    let cycles = four_bytes(
+        buffer[at + 1],
+        buffer[at + 2],
+        buffer[at + 3],
+        buffer[at + 4],
+    );
+    let period = four_bytes(
+        buffer[at + 5],
+        buffer[at + 6],
+        buffer[at + 7],
+        buffer[at + 8],
+    );
+    Task {
+        id: buffer[at],
+        cycles,
+        period,
+    }
+}
+
+// The sixteen places, those past the booked tasks empty.
+pub fn read(buffer: &[u8]) -> [Task; 16]
+    requires { ⌜ (length (now buffer) ≡ bufferBytes) × (countIn (now buffer) ≤ 16) ⌝ }
+    ensures { λ r. ⌜ r ≡ placesIn (now (buffer .entry)) ⌝ }
+{
+    let none = Task {
+        id: 0,
+        cycles: 0,
+        period: 0,
+    };
+    let mut tasks = [none; 16];
+    let end = buffer[110] as usize;
+    let mut i = 0;
+    while i < end {
+        tasks[i] = task_at(buffer, FIRST_TASK + 9 * i);
+        i += 1;
+    }
+    tasks
+}
+
+// Whether a record's tasks are such that neither 16 nor 40 would refuse one.
+pub fn fit(buffer: &[u8]) -> bool
+    requires { ⌜ (length (now buffer) ≡ bufferBytes) × (countIn (now buffer) ≤ 16) ⌝ }
+    ensures { λ r. ⌜ r ≡ tasksFit (now (buffer .entry)) ⌝ }
+{
+    let count = buffer[110];
+    let tasks = read(buffer);
+    if !task::all_ok(tasks, count) {
+        return false;
+    }
+    task::distinct(tasks, count)
+}
+
+fn put_four(buffer: &mut [u8], at: usize, number: u32)
+    requires { ⌜ at + 4 ≤ length (now buffer) ⌝ }
+    ensures { λ _. ⌜ now (buffer .exit) ≡ laid at (fourBytes number) (now (buffer .entry)) ⌝ }
+{
+    buffer[at] = (number / 16777216 % 256) as u8;
+    buffer[at + 1] = (number / 65536 % 256) as u8;
+    buffer[at + 2] = (number / 256 % 256) as u8;
+    buffer[at + 3] = (number % 256) as u8;
+}
+
+fn put_task(buffer: &mut [u8], at: usize, task: Task)
+    requires { ⌜ at + 9 ≤ length (now buffer) ⌝ }
+    ensures { λ _. ⌜ now (buffer .exit) ≡ laid at (taskBytes task) (now (buffer .entry)) ⌝ }
+{
+    buffer[at] = task.id;
+    put_four(buffer, at + 1, task.cycles);
+    put_four(buffer, at + 5, task.period);
+}
+
+// Writes the booked tasks at their places.
+pub fn write(tasks: [Task; 16], count: u8, buffer: &mut [u8])
+    requires { ⌜ (length (now buffer) ≡ bufferBytes) × (count ≤ 16) ⌝ }
+    ensures { λ _. ⌜ now (buffer .exit) ≡ laid firstTask (joined taskBytes (take count tasks)) (now (buffer .entry)) ⌝ }
+{
+    let end = count as usize;
+    let mut i = 0;
+    while i < end {
+        put_task(buffer, FIRST_TASK + 9 * i, tasks[i]);
+        i += 1;
+    }
+}

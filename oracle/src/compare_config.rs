@@ -1,0 +1,489 @@
+//! The calls of `rcc/clock_config.rs` of librikkovan.a against the original's.
+
+use crate::compare::Extent;
+use crate::config::{CALLS, Call, Clocks, Input};
+use crate::config_inputs::{
+    DIFFERENCES, FORMER, SEARCH, accepted, answers, around, clocks, few_cores, few_lists,
+    few_plans, first_waits, head, plan, present_clocks, search, searches, targets,
+};
+use crate::heads::{
+    Buffer, DIVIDERS, LONGEST, buffer, busy, damaged, dlls, few_heads, garbage, plain, put_flags,
+    put_register, task, with, with_tasks,
+};
+use crate::plans::{self, Record, STAGES, default_with, of_length, put_dll};
+use crate::tally::{Groups, Tally};
+use sifli::call::MOST_ANSWERS;
+use sifli::head::{BUFFER, at};
+use sifli::plan::{DEFAULT, LARGEST, LENGTH, at as field};
+use sifli::random::Random;
+use std::time::{Duration, Instant};
+
+const RANDOM: u64 = 1_000_000;
+const RANDOM_QUICK: u64 = 400_000;
+const DAMAGED: u64 = 200_000;
+const DAMAGED_QUICK: u64 = 30_000;
+
+/// Plans from which those of random calls are drawn.
+const ACCEPTED: usize = 4000;
+
+/// The words of the journal where nothing is tested about them.
+const JOURNAL: usize = 128;
+
+/// Answers printed of a differing input.
+const SHOWN_ANSWERS: usize = 100;
+
+/// Compares all groups of all calls and gives their sum.
+pub fn run(extent: Extent) -> Tally {
+    let mut sum = Tally::default();
+    for call in &CALLS {
+        sum.add(&groups(call, extent));
+    }
+    sum
+}
+
+/// All groups of a call, those of the plan only where there is one.
+fn groups(call: &'static Call, extent: Extent) -> Tally {
+    let quick = extent.quick;
+    let mut groups = Groups::new(call.function);
+    groups.group("supply modes", |tally| supply_modes(tally, call, quick));
+    groups.group("core clocks", |tally| core_clocks(tally, call, quick));
+    if call.is_lent_plan() {
+        groups.group("plan bytes", |tally| plan_bytes(tally, call, quick));
+        groups.group("pairs of plan fields", |tally| {
+            plan_pairs(tally, call, quick)
+        });
+        groups.group("plan lengths 0 to 40", |tally| plan_lengths(tally, call));
+        groups.group("DLLs and flash selects", |tally| {
+            dlls_and_selects(tally, call, quick)
+        });
+        groups.group("every DLL2", |tally| every_dll2(tally, call, quick));
+    }
+    groups.group("boot modes and ready flags", |tally| {
+        boot_modes(tally, call)
+    });
+    groups.group("answers cut", |tally| answers_cut(tally, call));
+    groups.group("searches", |tally| every_search(tally, call, quick));
+    groups.group("waits", |tally| every_wait(tally, call));
+    groups.group("order of refusals", |tally| refusals(tally, call));
+    groups.group("one byte changed", |tally| {
+        one_byte_changed(tally, call, quick)
+    });
+    groups.group("damaged heads", |tally| damaged_heads(tally, call, quick));
+    groups.group("random calls", |tally| random_calls(tally, call, extent));
+    groups.finish(call.refusals)
+}
+
+/// One call on one input. Of a differing one the first answers are printed.
+fn compare(tally: &mut Tally, input: Input) {
+    let (ours, original) = (input.ours(), input.original());
+    tally.count(original.refusal());
+    tally.note_entries(original.entries().len());
+    if input.call.clocks == Clocks::Written && original.refusal() == 0 {
+        tally.note_value(original.value());
+    }
+    if original != ours {
+        let lent = (input.journal, input.answers.len());
+        let answers = &input.answers[..lent.1.min(SHOWN_ANSWERS)];
+        let input = Input { answers, ..input };
+        let input = format!("journal of {}, answers {}, {input}", lent.0, lent.1);
+        tally.differ(input, ours.beside(&original), original.beside(&ours));
+    }
+}
+
+/// A call with a journal of 128 words.
+fn on(tally: &mut Tally, call: &'static Call, head: &[u8], plan: &[u8], answers: &[u16]) {
+    compare(
+        tally,
+        Input {
+            call,
+            plan,
+            clocks: FORMER,
+            head,
+            journal: JOURNAL,
+            answers,
+        },
+    );
+}
+
+/// The plans, or one for a call that takes none.
+fn plans_for<'a>(call: &Call, plans: &'a [Record]) -> &'a [Record] {
+    match call.is_lent_plan() {
+        true => plans,
+        false => &plans[..1],
+    }
+}
+
+/// Every present HCLK with every target, and so every pair of supply modes; with
+/// calibration and without. In the full run from either supply.
+fn supply_modes(tally: &mut Tally, call: &'static Call, quick: bool) {
+    let targets = targets();
+    let heads = if quick {
+        vec![busy()]
+    } else {
+        vec![busy(), plain()]
+    };
+    for buffer in heads.iter().flat_map(present_clocks) {
+        for plan in plans_for(call, &targets) {
+            for calibrate in 0..2 {
+                let mut plan = *plan;
+                plan[field::CALIBRATE] = calibrate;
+                for answers in few_lists() {
+                    on(tally, call, &buffer, &plan, &answers);
+                }
+            }
+        }
+    }
+}
+
+/// Core select, DLL1, ready flags and some hdivs; in the full run every hdiv.
+fn core_clocks(tally: &mut Tally, call: &'static Call, quick: bool) {
+    let every: Vec<u8> = (0..=255).collect();
+    let hdivs = if quick { &DIVIDERS[..] } else { &every };
+    let few = few_plans();
+    let few = if quick { &few[1..3] } else { &few[..4] };
+    let [ready, ..] = few_lists();
+    for core in 0..4 {
+        for dll1 in dlls(&STAGES) {
+            for flags in 0..4 {
+                let mut buffer = with(buffer(&busy(), 0), &[(at::c(1), core)]);
+                put_register(&mut buffer, 3, dll1);
+                put_flags(&mut buffer, flags);
+                for &hdiv in hdivs {
+                    buffer[at::a(2)] = hdiv;
+                    for plan in plans_for(call, few) {
+                        on(tally, call, &buffer, plan, &ready);
+                    }
+                }
+            }
+        }
+    }
+}
+
+/// Some plans with each byte at all values.
+fn plan_bytes(tally: &mut Tally, call: &'static Call, quick: bool) {
+    let heads = few_cores();
+    let heads = if quick { &heads[..2] } else { &heads };
+    let [ready, ..] = few_lists();
+    for good in few_plans() {
+        for index in 0..LENGTH {
+            for byte in 0..=255 {
+                let mut plan = good;
+                plan[index] = byte;
+                for head in heads {
+                    on(tally, call, head, &plan, &ready);
+                }
+            }
+        }
+    }
+}
+
+/// Some plans with each pair of fields at all codes, hdiv at some.
+fn plan_pairs(tally: &mut Tally, call: &'static Call, quick: bool) {
+    let codes = |index: usize| match index {
+        field::HDIV => DIVIDERS.to_vec(),
+        _ => (0..=LARGEST[index - field::CORE]).collect(),
+    };
+    let heads = few_cores();
+    let heads = if quick { &heads[4..5] } else { &heads };
+    let few = few_plans();
+    let few = if quick { &few[..2] } else { &few };
+    let [ready, ..] = few_lists();
+    for first in field::CORE..LENGTH {
+        for second in first + 1..LENGTH {
+            for byte in codes(first) {
+                for other in codes(second) {
+                    for &good in few {
+                        let mut plan = good;
+                        (plan[first], plan[second]) = (byte, other);
+                        for head in heads {
+                            on(tally, call, head, &plan, &ready);
+                        }
+                    }
+                }
+            }
+        }
+    }
+}
+
+/// Plans of every length, on heads that are refused and that are not.
+fn plan_lengths(tally: &mut Tally, call: &'static Call) {
+    let [ready, ..] = few_lists();
+    let good = buffer(&busy(), 0);
+    let heads = [good, with(good, &[(at::VERSION, 2)]), [0; BUFFER]];
+    for length in 0..=plans::LONGEST {
+        for plan in of_length(length) {
+            for head in &heads {
+                on(tally, call, head, &plan, &ready);
+            }
+        }
+    }
+}
+
+/// Both DLLs in the plan or not, set or not, as the plan has them or not; every
+/// pair of flash selects and of hpbg flags. In the full run with answers that
+/// end at either DLL.
+fn dlls_and_selects(tally: &mut Tally, call: &'static Call, quick: bool) {
+    let lists = if quick {
+        vec![vec![1, 1]]
+    } else {
+        vec![vec![1, 1], vec![1], vec![0, 1, 0], vec![]]
+    };
+    for setting in 0..1 << 11 {
+        let bit = |index: u32| (setting >> index & 1) as u8;
+        let mut plan = default_with(&[
+            (field::CALIBRATE, 0),
+            (field::USB, 0),
+            (field::MPI2, 0),
+            (field::CORE, 1 + 2 * bit(9)),
+        ]);
+        if bit(9) == 0 {
+            put_dll(&mut plan, field::DLL1, [0; 3]);
+        }
+        let planned = [[0; 3], [1, 11, 0], [1, 11, 1]];
+        for dll2 in planned {
+            put_dll(&mut plan, field::DLL2, dll2);
+            let mut buffer = buffer(&busy(), 0);
+            put_register(
+                &mut buffer,
+                5,
+                [0, setting as u8 & 3, setting as u8 >> 2 & 3],
+            );
+            put_register(&mut buffer, 11, [0, bit(4), bit(5)]);
+            put_register(&mut buffer, 4, [bit(6), bit(7), 11 - bit(8)]);
+            put_register(&mut buffer, 3, [bit(10), 0, 9]);
+            for answers in &lists {
+                on(tally, call, &buffer, &plan, answers);
+            }
+        }
+    }
+}
+
+/// Every DLL2 of the head with every DLL2 of the plan; quick with every fifth.
+fn every_dll2(tally: &mut Tally, call: &'static Call, quick: bool) {
+    let step = if quick { 5 } else { 1 };
+    for core in [1, 3] {
+        for dll2 in plans::dlls(&STAGES) {
+            let mut plan = default_with(&[
+                (field::CALIBRATE, 0),
+                (field::USB, 0),
+                (field::HDIV, 5),
+                (field::MPI2, 0),
+            ]);
+            put_dll(&mut plan, field::DLL2, dll2);
+            for present in dlls(&STAGES).into_iter().step_by(step) {
+                let mut buffer = with(buffer(&busy(), 0), &[(at::c(1), core)]);
+                put_register(&mut buffer, 4, present);
+                on(tally, call, &buffer, &plan, &[1, 0, 1]);
+            }
+        }
+    }
+}
+
+/// Every boot mode with every core select and all flags, with calibration and
+/// without.
+fn boot_modes(tally: &mut Tally, call: &'static Call) {
+    let few = few_plans();
+    for core in 0..4 {
+        for flags in 0..8 {
+            let mut buffer = with(buffer(&busy(), 0), &[(at::c(1), core)]);
+            put_flags(&mut buffer, flags);
+            for mode in 0..=255 {
+                buffer[at::BOOT_MODE] = mode;
+                for plan in plans_for(call, &few[..2]) {
+                    on(tally, call, &buffer, plan, &[1000; 6]);
+                }
+            }
+        }
+    }
+}
+
+/// Lists that end a call, cut at every length.
+fn answers_cut(tally: &mut Tally, call: &'static Call) {
+    let few = few_plans();
+    let polled = |list: &[u16]| {
+        let polls = list.chunks(3);
+        polls.flat_map(|three| [&[0], three].concat()).collect()
+    };
+    for head in few_cores() {
+        for larger in [0, !0, 0x555] {
+            for last in [0, 64, 160, 161] {
+                let search = search(SEARCH, last, larger);
+                for search in [polled(&search), search] {
+                    let answers = around(&head, &search);
+                    for plan in plans_for(call, &few) {
+                        for cut in 0..=answers.len() {
+                            on(tally, call, &head, plan, &answers[..cut]);
+                        }
+                    }
+                }
+            }
+        }
+    }
+}
+
+/// Searches of every length with each last difference, and whole ones with every
+/// choice of the larger counts; quick with one last difference each.
+fn every_search(tally: &mut Tally, call: &'static Call, quick: bool) {
+    let few = few_plans();
+    for head in few_cores() {
+        for search in searches() {
+            let answers = around(&head, &search);
+            for plan in plans_for(call, &few) {
+                on(tally, call, &head, plan, &answers);
+            }
+        }
+    }
+    let step = if quick { DIFFERENCES.len() } else { 1 };
+    for head in &few_cores()[..2] {
+        for larger in 0..1 << SEARCH {
+            let lasts = DIFFERENCES.iter().cycle().skip(larger as usize % 7);
+            for &last in lasts.take(DIFFERENCES.len()).step_by(step) {
+                let answers = around(head, &search(SEARCH, last, larger));
+                on(tally, call, head, &DEFAULT, &answers);
+            }
+        }
+    }
+}
+
+/// Long waits, and the most answers.
+fn every_wait(tally: &mut Tally, call: &'static Call) {
+    let few = few_plans();
+    for answers in first_waits() {
+        for head in few_cores() {
+            for plan in plans_for(call, &few) {
+                on(tally, call, &head, plan, &answers);
+            }
+        }
+    }
+}
+
+/// Journals and answers of lengths around their limits, and past 16 bits, with
+/// faults in head and plan.
+fn refusals(tally: &mut Tally, call: &'static Call) {
+    const HEADS: [&[(usize, u8)]; 7] = [
+        &[],
+        &[(1, 0)],
+        &[(at::COUNT, 17)],
+        &[(at::VERSION, 2)],
+        &[(at::VERSION, 0), (at::c(1), 4)],
+        &[(at::FLAGS + 2, 2)],
+        &[(task(1), 1)],
+    ];
+    let plans = [
+        DEFAULT,
+        default_with(&[(field::PDIV1, 0)]),
+        default_with(&[(1, 19), (field::VERSION, 2)]),
+        default_with(&[(field::VERSION, 0), (field::CORE, 4)]),
+        default_with(&[(field::CORE, 4)]),
+    ];
+    let good = buffer(&with_tasks(busy(), 2), 0);
+    for journal in [0, 1, 64, 127, 128, 129, 200, 256, 65_536, 65_600] {
+        for answers in [0, 2, MOST_ANSWERS, MOST_ANSWERS + 1, 65_536, 65_538] {
+            let answers = vec![1; answers];
+            for faults in HEADS {
+                let mut head = with(good, faults).to_vec();
+                head.resize(LONGEST, 0);
+                for length in [0, 254, 255, 256] {
+                    for plan in plans_for(call, &plans) {
+                        let head = &head[..length];
+                        compare(
+                            tally,
+                            Input {
+                                call,
+                                plan,
+                                clocks: FORMER,
+                                head,
+                                journal,
+                                answers: &answers,
+                            },
+                        );
+                    }
+                }
+            }
+        }
+    }
+}
+
+/// Every byte of some heads at every value.
+fn one_byte_changed(tally: &mut Tally, call: &'static Call, quick: bool) {
+    let [zeros, plain, busy, largest] = few_heads();
+    let heads = [busy, plain, zeros, largest];
+    let heads = if quick { &heads[..1] } else { &heads };
+    let [ready, ..] = few_lists();
+    for good in heads {
+        for index in 0..BUFFER {
+            for byte in 0..=255 {
+                on(
+                    tally,
+                    call,
+                    &with(*good, &[(index, byte)]),
+                    &DEFAULT,
+                    &ready,
+                );
+            }
+        }
+    }
+}
+
+/// Random heads with one to three bytes replaced, and any bytes.
+fn damaged_heads(tally: &mut Tally, call: &'static Call, quick: bool) {
+    let mut random = Random::new(0xDA3C);
+    let accepted = accepted(&mut random, ACCEPTED);
+    let number = if quick { DAMAGED_QUICK } else { DAMAGED };
+    for _ in 0..number {
+        let damaged = damaged(&mut random);
+        let first = plan(&mut random, &accepted);
+        random_call(tally, &mut random, call, &damaged, &first);
+        let garbage = garbage(&mut random);
+        let second = plan(&mut random, &accepted);
+        random_call(tally, &mut random, call, &garbage, &second);
+    }
+}
+
+/// Random heads; in a longer run each call gets its share of the seconds.
+fn random_calls(tally: &mut Tally, call: &'static Call, extent: Extent) {
+    let mut random = Random::new(0xC0F1);
+    let accepted = accepted(&mut random, ACCEPTED);
+    let number = if extent.quick { RANDOM_QUICK } else { RANDOM };
+    let least = Duration::from_secs(extent.seconds) / CALLS.len() as u32;
+    let began = Instant::now();
+    while tally.compared < number || began.elapsed() < least {
+        for _ in 0..1000 {
+            let plan = plan(&mut random, &accepted);
+            let head: Buffer = head(&mut random, &plan);
+            random_call(tally, &mut random, call, &head, &plan);
+        }
+    }
+}
+
+/// Random answers, clocks and length of the journal.
+fn random_call(
+    tally: &mut Tally,
+    random: &mut Random,
+    call: &'static Call,
+    head: &[u8],
+    plan: &[u8],
+) {
+    let journal = match random.below(64) {
+        0 => random.below(128),
+        1 => 128 + random.below(1000),
+        _ => random.pick(&[128, 129, 200]),
+    };
+    let is_measuring = match call.clocks {
+        Clocks::None => true,
+        Clocks::Written => plan.get(field::CALIBRATE) == Some(&1),
+        Clocks::Former => false,
+    };
+    let answers = answers(random, head, is_measuring);
+    compare(
+        tally,
+        Input {
+            call,
+            plan,
+            clocks: clocks(random),
+            head,
+            journal,
+            answers: &answers,
+        },
+    );
+}

@@ -1,0 +1,100 @@
+/* What tests of calls on a head share: a head, and what is lent to a call. */
+#include <stdio.h>
+#include <string.h>
+
+#include "rikkovan.h"
+
+#define WORDS RIKKOVAN_JOURNAL_WORDS
+/* What the journal and the head past its record hold before a call. */
+#define BEFORE 0xA5A5A5A5u
+#define PAST 0xEE
+
+#define A(reg) RIKKOVAN_HEAD_A(RIKKOVAN_REG_##reg)
+#define B(reg) RIKKOVAN_HEAD_B(RIKKOVAN_REG_##reg)
+#define C(reg) RIKKOVAN_HEAD_C(RIKKOVAN_REG_##reg)
+#define ENTRY(reg, value) ((uint32_t)RIKKOVAN_REG_##reg << 24 | (value))
+#define DELAY(cycles) ((uint32_t)RIKKOVAN_ENTRY_DELAY << 24 | (cycles))
+#define WAIT(kind, taken) \
+    ((uint32_t)RIKKOVAN_ENTRY_WAIT << 24 | (uint32_t)RIKKOVAN_WAIT_##kind << 16 | (taken))
+
+static int failures = 0;
+
+static void expect(const char *name, const char *what, uint64_t wanted, uint64_t got)
+{
+    if (wanted == got)
+        return;
+    printf("%s: %s: wanted %lu, got %lu\n", name, what, (unsigned long)wanted, (unsigned long)got);
+    failures++;
+}
+
+/* The word of a call on a head; the value is 0 where there is a refusal. */
+static uint64_t word_of(uint32_t refusal, uint32_t value, int entries, int taken)
+{
+    return (uint64_t)(refusal != 0) << 63 | (uint64_t)taken << 48 | (uint64_t)entries << 32 |
+           refusal | value;
+}
+
+/* A byte of a head, set to a value. Offset 0 ends a list. */
+struct edit {
+    int offset;
+    uint8_t value;
+};
+
+/* The core on HXT48, all oscillators ready, LPSYS at 48 MHz on supply S, one task, all else 0. */
+static void make_head(uint8_t *head, size_t room)
+{
+    memset(head, PAST, room);
+    memset(head, 0, RIKKOVAN_HEAD_TASK(0));
+    head[RIKKOVAN_HEAD_LENGTH + 1] = 109 + 9;
+    head[RIKKOVAN_HEAD_VERSION] = 1;
+    head[C(SYSCLK)] = RIKKOVAN_CORE_HXT48;
+    head[C(LPSYS_SUPPLY)] = RIKKOVAN_LPSYS_SUPPLY_S;
+    head[RIKKOVAN_HEAD_HXT48_READY] = 1;
+    head[RIKKOVAN_HEAD_HRC48_READY] = 1;
+    head[RIKKOVAN_HEAD_LPSYS_HXT48_READY] = 1;
+    head[RIKKOVAN_HEAD_WAKE_COUNT] = 7;
+    head[RIKKOVAN_HEAD_TASKS] = 1;
+    memcpy(head + RIKKOVAN_HEAD_TASK(0), "\1\0\0\0\2\0\0\0\3", 9);
+}
+
+static void put(uint8_t *head, const struct edit *edit, int most)
+{
+    int k;
+
+    for (k = 0; k < most && edit[k].offset != 0; k++)
+        head[edit[k].offset] = edit[k].value;
+}
+
+/* Head and journal are lent from their second element on, and end behind what is lent. */
+struct lent {
+    uint8_t head[300], wanted[300];
+    uint32_t journal[WORDS + 80];
+};
+
+/* Makes a head with some bytes set, and the head that the call must leave. */
+static void lend(struct lent *lent, const struct edit *edit, int edits, const struct edit *after,
+                 int afters)
+{
+    size_t i;
+
+    lent->head[0] = PAST;
+    make_head(lent->head + 1, sizeof lent->head - 1);
+    put(lent->head + 1, edit, edits);
+    memcpy(lent->wanted, lent->head, sizeof lent->head);
+    put(lent->wanted + 1, after, afters);
+    for (i = 0; i < sizeof lent->journal / sizeof lent->journal[0]; i++)
+        lent->journal[i] = BEFORE;
+}
+
+/* The head is the one that was wanted, and the journal has these entries and nothing else new. */
+static void expect_left(const char *name, const struct lent *lent, int entries,
+                        const uint32_t *entry)
+{
+    size_t i;
+
+    for (i = 0; i < sizeof lent->head; i++)
+        expect(name, "a byte of the head", lent->wanted[i], lent->head[i]);
+    for (i = 0; i < sizeof lent->journal / sizeof lent->journal[0]; i++)
+        expect(name, "a word of the journal",
+               i >= 1 && i <= (size_t)entries ? entry[i - 1] : BEFORE, lent->journal[i]);
+}
