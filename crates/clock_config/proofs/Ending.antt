@@ -2,11 +2,8 @@
 use Prim.Native.Nat.{ℕ}
 use mathlib.Core.Path.{_≡_, refl, sym, ap, _∙_, subst}
 use mathlib.Core.Bool.{cond}
-use mathlib.Core.List.{List, [], _∷_}
-use native.Mathlib.Omega.{arith}
+use mathlib.Core.List.{List}
 use lib.Dec.{eqb}
-use lib.ListN.{length, getD, drop, drop-of-length-le}
-use lib.Seq.{drop-cons}
 use borrow.Author.Tests.{ne-eqb}
 use Rattle.record.proofs.Refusals.{only-test, first-passes}
 use Rattle.plan.specs.declared.Plan.{Plan}
@@ -65,7 +62,3 @@ module _ (pb b j a : List ℕ) {o : Admitted} (x : Admits (answersTests b j a) b
 -- the same ending with the same value under another name
 pub finishes-as : {m : Machine} {v v' : ℕ} {r : Answer} {b b' : List ℕ} → v ≡ v' → Finishes m v r b b' → Finishes m v' r b b'
 finishes-as {m} {v} {v'} {r} {b} {b'} e f = subst (λ (n : ℕ). Finishes m n r b b') e f
-
--- the audio PLL pair are the last two of the 15
-pub pair : (xs : List ℕ) → length xs ≡ 15 → drop 13 xs ≡ getD xs 13 0 ∷ getD xs 14 0 ∷ []
-pair xs e = rw (drop-cons xs 13 0 (omega (arith, e)), drop-cons xs 14 0 (omega (arith, e)), drop-of-length-le xs {i = 15} (omega (arith, e))) refl

@@ -4,7 +4,7 @@ use Prim.Native.Nat.{ℕ}
 use mathlib.Core.Bool.{cond, not}
 use mathlib.Core.List.{List, [], _∷_, _++_}
 use lib.Dec.{eqb}
-use lib.ListN.{take, drop, replicate}
+use lib.ListN.{replicate}
 use Rattle.record.specs.Refusals.{refuse, firstOf}
 use Rattle.plan.specs.Plan.{planOf}
 use Rattle.verdict.specs.Verdict.{verdict, numberOf}
@@ -15,7 +15,8 @@ use Rattle.journal.specs.Run.{Run, Effect, begin}
 use Rattle.call.specs.Call.{Result, answersTests, performed}
 use Rattle.calibration.specs.Calibration.{calibrateHrc48}
 use Rattle.clock_switch.specs.Switch.{toPlan}
-use Rattle.clock_config.specs.Init.{init, initWarning}
+use Rattle.call_clocks.specs.Clocks.{withAudioOf}
+use Rattle.clock_init.specs.Init.{init, initWarning}
 
 -- "Calls test 17, 18, the head's 1 to 3, then the rest": `calibrate_hrc48`, with 31
 abbrev pub calibrationTests : List ℕ → List ℕ
@@ -47,11 +48,7 @@ initClocks pb b j a = cond (eqb (initCall pb b j a .refusal) 0) (clocksOf (headA
 unfoldable pub reconfigureCall : List ℕ → List ℕ → List ℕ → List ℕ → Result
 reconfigureCall pb b j a = planCall (toPlan (planOf pb) a) 0 pb b j a
 
--- it "takes the former `Clocks` beside the head and gives the new one with the audio PLL pair unaltered, or the former on a refusal": the
--- pair are the last two of the 15
-abbrev pub withAudioOf : List ℕ → List ℕ → List ℕ
-withAudioOf former clocks = take 13 clocks ++ drop 13 former
-
+-- it "takes the former `Clocks` beside the head and gives the new one with the audio PLL pair unaltered, or the former on a refusal"
 unfoldable pub reconfigureClocks : List ℕ → List ℕ → List ℕ → List ℕ → List ℕ → List ℕ
 reconfigureClocks former pb b j a =
     cond (eqb (reconfigureCall pb b j a .refusal) 0) (withAudioOf former (clocksOf (headAfter (toPlan (planOf pb) a) b))) former

@@ -2,9 +2,9 @@
 ghost use mathlib.Core.Path.{_≡_};
 ghost use lib.ListN.{length};
 ghost use Rattle.verdict.specs.Verdict.{numberOf};
-ghost use Rattle.recorded.specs.Answer.{AnswerWithin};
-use crate::answer;
-use crate::answer::Outcome;
+ghost use Rattle.answered.specs.Answer.{AnswerWithin};
+use answered::Outcome;
+use answered::answer;
 use lines::hex;
 use lines::hex::Field;
 use lines::text;

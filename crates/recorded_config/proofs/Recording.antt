@@ -13,9 +13,10 @@ use Rattle.plan.specs.Plan.{planOf}
 use Rattle.head.specs.declared.Head.{Head}
 use Rattle.clock_read.specs.Clocks.{clocksOf}
 use Rattle.clock_switch.specs.Switch.{toPlan}
-use Rattle.clock_config.specs.Init.{init}
-use Rattle.clock_config.specs.Calls.{calibration, headAfter, initCall, initClocks, withAudioOf, reconfigureCall, reconfigureClocks}
-use Rattle.recorded.specs.CallLine.{unused, joined, leftText}
+use Rattle.clock_init.specs.Init.{init}
+use Rattle.call_clocks.specs.Clocks.{withAudioOf}
+use Rattle.clock_config.specs.Calls.{calibration, headAfter, initCall, initClocks, reconfigureCall, reconfigureClocks}
+use Rattle.answered.specs.Left.{unused, joined, leftText}
 use Rattle.recorded_config.specs.declared.calls.Call.{Call}
 use Rattle.recorded_config.specs.declared.calls.Call.the-variants.{Calibrate, Init, Reconfigure}
 use Rattle.recorded_config.specs.ConfigLine.{nameOf, lentPlan, resultOf, clocksAfter, clocksText, givenText, lineOf}

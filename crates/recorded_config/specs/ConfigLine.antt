@@ -6,7 +6,7 @@ use mathlib.Core.List.{List, [], _∷_, _++_}
 use lib.ListN.{replicate}
 use Rattle.call.specs.Call.{Result}
 use Rattle.clock_config.specs.Calls.{calibration, initCall, initClocks, reconfigureCall, reconfigureClocks}
-use Rattle.recorded.specs.CallLine.{unused, joined, bytes, words, answersText, resultText}
+use Rattle.answered.specs.Left.{unused, joined, bytes, words, answersText, resultText}
 use Rattle.recorded_config.specs.declared.calls.Call.{Call}
 use Rattle.recorded_config.specs.declared.calls.Call.the-variants.{Calibrate, Init, Reconfigure}
 use Rattle.recorded_config.specs.declared.calls.Named.{Named}

@@ -6,17 +6,17 @@ ghost use Prim.Native.Nat.{_≤_};
 ghost use mathlib.Core.Path.{_≡_};
 ghost use lib.ListN.{length};
 ghost use Rattle.lines.specs.Text.{Puts};
-ghost use Rattle.recorded.specs.Answer.{AnswerWithin};
-ghost use Rattle.recorded.specs.CallLine.{joined, answersText};
+ghost use Rattle.answered.specs.Answer.{AnswerWithin};
+ghost use Rattle.answered.specs.Left.{joined, answersText};
 ghost use Rattle.recorded_config.specs.ConfigLine.{nameOf, clocksText, givenText, lineOf, Recorded};
 use crate::calls;
 use crate::calls::Call;
 use crate::calls::Named;
+use answered::Outcome;
+use answered::left;
 use lines::hex;
 use lines::hex::Field;
 use lines::text;
-use recorded::Outcome;
-use recorded::call_lines;
 
 fn put_plan(lent: bool, plan: &[u8], text: &mut [u8], at: usize) -> usize
     requires { ⌜ at ≤ length (now text) ⌝ }
@@ -76,11 +76,11 @@ fn run_line(
 {
     let mut clocks = former;
     let given = put_given(call, name, &clocks, plan, buffer, answers, text);
-    let mut journal = [call_lines::UNUSED; 128];
+    let mut journal = [left::UNUSED; 128];
     let answer = call.run(plan, &mut clocks, buffer, &mut journal, words);
-    let left = call_lines::put_left(answer, buffer, &journal, text, given);
+    let left = left::put_left(answer, buffer, &journal, text, given);
     let end = put_clocks(call.is_lent_plan(), &clocks, text, left);
-    call_lines::compare(line, &journal, answer.entries, text, given, end)
+    left::compare(line, &journal, answer.entries, text, given, end)
 }
 
 // The rest of a line, from the answers on.
@@ -107,7 +107,7 @@ fn answers_line(
                 return Outcome::Malformed;
             }
             let mut words = [0u16; 1024];
-            let answers = call_lines::join(&bytes[..count], &mut words);
+            let answers = left::join(&bytes[..count], &mut words);
             run_line(
                 call,
                 plan,
@@ -182,7 +182,7 @@ fn clocks_line(
     ensures { λ r. ⌜ (r ≡ Outcome.Same → Recorded (now (line .entry))) ⌝ }
 {
     let mut bytes = [0u8; 60];
-    match call_lines::decode_optional(call.takes_clocks(), line, at, &mut bytes) {
+    match left::decode_optional(call.takes_clocks(), line, at, &mut bytes) {
         Field::Malformed => Outcome::Malformed,
         Field::Bytes { count: _, next } => {
             buffer_line(call, plan, clocks_from(bytes), name, line, next, text)
@@ -198,7 +198,7 @@ fn plan_line(call: Call, name: &[u8], line: &[u8], at: usize, text: &mut [u8]) -
     ensures { λ r. ⌜ (r ≡ Outcome.Same → Recorded (now (line .entry))) ⌝ }
 {
     let mut plan = [0u8; 2048];
-    match call_lines::decode_optional(call.is_lent_plan(), line, at, &mut plan) {
+    match left::decode_optional(call.is_lent_plan(), line, at, &mut plan) {
         Field::Malformed => Outcome::Malformed,
         Field::Bytes { count, next } => {
             clocks_line(call, &plan[..count], name, line, next, text)

@@ -1,8 +1,8 @@
 // What the lines of a file record.
 ghost use lib.ListN.{length};
-ghost use Rattle.recorded.specs.Answer.{AnswerWithin};
+ghost use Rattle.answered.specs.Answer.{AnswerWithin};
+use answered::Outcome;
 use libc::STDOUT_FILENO;
-use recorded::Outcome;
 
 pub enum Kind {
     Plans,

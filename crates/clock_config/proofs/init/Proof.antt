@@ -10,7 +10,7 @@ use Rattle.call.proofs.Ending.{call-encodable, call-bytes}
 use lib.ListN.{replicate}
 use Rattle.head.specs.Head.{headOf}
 use Rattle.journal.specs.Run.{begin}
-use Rattle.clock_config.specs.Init.{init, initWarning}
+use Rattle.clock_init.specs.Init.{init, initWarning}
 use Rattle.clock_config.specs.Calls.{initCall, initClocks, headAfter}
 use Rattle.clock_config.proofs.Ending.{plan-unadmitted, plan-refused, of-bytes, plan-ran, finishes-as}
 use borrow.Author.Needs.{needs}

@@ -10,7 +10,8 @@ use Rattle.call.proofs.Ending.{call-encodable, call-bytes}
 use Rattle.plan_clocks.specs.declared.Target.{Target}
 use Rattle.plan_clocks.specs.Clocks.{targetOf}
 use Rattle.clock_switch.specs.Switch.{toPlan}
-use Rattle.clock_config.specs.Calls.{withAudioOf, reconfigureCall, reconfigureClocks, headAfter}
+use Rattle.call_clocks.specs.Clocks.{withAudioOf}
+use Rattle.clock_config.specs.Calls.{reconfigureCall, reconfigureClocks, headAfter}
 use Rattle.clock_config.proofs.Ending.{plan-unadmitted, plan-refused, plan-ran}
 use borrow.Author.Needs.{needs}
 use Rattle.clock_config.proofs.reconfigure_sysclk.Statement.{statement}

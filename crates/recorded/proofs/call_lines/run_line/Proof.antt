@@ -1,6 +1,7 @@
 -- `recorded::call_lines::run_line` meets its contract: the text is that of the call, given and left. Assumes nothing.
 use Rattle.named.proofs.Laws.{numbers-most, entries-within}
-use Rattle.recorded.proofs.Recording.{line-is, same-line}
+use Rattle.answered.proofs.Comparing.{same-line}
+use Rattle.recorded.proofs.Recording.{line-is}
 use lib.Seq.{length-take-le}
 use native.Mathlib.Omega.{arith}
 use mathlib.Core.Path.{sym, _∙_}

@@ -1,6 +1,7 @@
 -- `recorded_config::config_lines::run_line` meets its contract: the text is that of the call, given and left. Assumes nothing.
+use Rattle.recorded_config.specs.ConfigLine.{givenText}
 use Rattle.recorded_config.proofs.Recording.{entries-within, clocks-count, line-is}
-use Rattle.recorded.proofs.Recording.{same-line}
+use Rattle.answered.proofs.Comparing.{same-line}
 use Rattle.lines.proofs.Putting.{puts-then}
 use native.Mathlib.Omega.{arith}
 use mathlib.Core.Path.{_∙_}
@@ -58,9 +59,10 @@ returns c =
     let left = c .before .before .before .before .before .before .before .before .before .before .before .put-left in
     let lent = c .before .before .before .before .before .before .before .before .is-lent-plan in
     let clocks = c .before .before .before .before .before .put-clocks in
+    let given = givenText (args .call) (args .name .now) (args .former) (args .plan .now) (args .buffer .now) (args .answers .now) in
     let line = line-is (args .call) (args .former) (args .plan .now) (args .buffer .now) (args .answers .now) (args .name .now) (args .words .now) _ _ _ _ (run .result) (pre .0) (pre .1) (lent .ensures) (run .ensures .0) (run .ensures .1) in
     let same = clocks .kept .1 .1 .0 ∙ left .kept .1 .1 .1 .0 in
-    (rw (same, front .kept .1 .1 .1 .1 .1 .1 .0) at (c .compare .ensures .0), λ e. same-line (front .ensures) (puts-then (left .ensures) (clocks .ensures) (left .kept .1 .1 .1 .0)) (c .compare .ensures .1 e) (front .kept .1 .1 .1 .1 .1 .1 .0) same ∙ line)
+    (rw (same, front .kept .1 .1 .1 .1 .1 .1 .0) at (c .compare .ensures .0), λ e. same-line {given = given} (front .ensures) (puts-then (left .ensures) (clocks .ensures) (left .kept .1 .1 .1 .0)) (c .compare .ensures .1 e) (front .kept .1 .1 .1 .1 .1 .1 .0) same ∙ line)
 
 pub run-line-spec : {M : Type 1} → statement M
 run-line-spec =

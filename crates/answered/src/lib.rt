@@ -1,0 +1,5 @@
+// Our answers as text, compared with the recorded ones.
+pub mod answer;
+pub mod left;
+
+pub use answer::Outcome;
