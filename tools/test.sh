@@ -44,9 +44,8 @@ every_crate_is_listed() {
     return "$unlisted"
 }
 
-# Those that run at a time wait for each other, and they take different times: four keep two cores busy.
 rt_ci() {
-    RT_JOBS=${RT_JOBS:-4} rt ci 2>&1 | tee "$log" || return
+    rt ci 2>&1 | tee "$log" || return
     tail -n 1 "$log" | grep -qxE '[0-9]+ passed, 0 failed'
 }
 
