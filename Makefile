@@ -15,12 +15,13 @@ ORACLE = oracle/target/release/oracle
 LIBRARY = target/staticlib/librikkovan.a
 SOURCES = crates.txt $(shell find crates -name '*.rt' -o -name '*.antt')
 PLANS = $(sort $(wildcard examples/plans/*.plan))
+TASKS = $(sort $(wildcard examples/tasks/*.tasks))
 
 .DELETE_ON_ERROR:
-.PHONY: help lib run test test-c oracle oracle-library compare compare-quick compare-plans compare-heads record bench plans install clean
+.PHONY: help lib run test test-c oracle oracle-library compare compare-quick compare-plans compare-heads record bench plans tasks install clean
 
 help:
-	@echo 'make run            prove the library, then check the example plans through it'
+	@echo 'make run            prove the library, then check the example plans and tasks through it'
 	@echo 'make test           the whole test, with every proof'
 	@echo 'make lib            prove the library and write $(LIBRARY)'
 	@echo 'make install        install it, with its header (PREFIX=$(PREFIX), DESTDIR)'
@@ -28,7 +29,7 @@ help:
 	@echo 'make compare        compare the library with the Rust (compare-quick: a part of it)'
 	@echo 'make record         write crates/replay/data anew from the Rust'
 	@echo 'make bench          measure the library and the Rust'
-	@echo 'make plans          write examples/plans anew'
+	@echo 'make plans          write examples/plans anew (make tasks: examples/tasks)'
 	@echo 'make clean          remove what was built'
 
 lib: $(LIBRARY)
@@ -40,9 +41,9 @@ build/daemon: examples/daemon.c include/rikkovan.h $(LIBRARY)
 	@mkdir -p build
 	$(CC) -std=c99 $(STRICT) $(CFLAGS) -Iinclude -o $@ examples/daemon.c $(LIBRARY)
 
-# Some of the plans are refused on purpose, and the daemon's status is then 1.
+# Some of the files are refused on purpose, and the daemon's status is then 1.
 run: build/daemon
-	@build/daemon $(PLANS) || test $$? -eq 1
+	@build/daemon $(PLANS) $(TASKS:%=--tasks %) || test $$? -eq 1
 
 test:
 	@tools/test.sh
@@ -64,7 +65,7 @@ compare-quick: oracle
 	@$(MAKE) --no-print-directory --output-sync -j2 compare-plans compare-heads
 
 compare-plans:
-	$(ORACLE) compare --quick --only plan --only config
+	$(ORACLE) compare --quick --only plan --only config --only tasks
 
 compare-heads:
 	$(ORACLE) compare --quick --only heads --only lpsys
@@ -77,6 +78,9 @@ bench: oracle
 
 plans:
 	tools/make-plans.sh
+
+tasks:
+	tools/make-tasks.sh
 
 install: $(LIBRARY)
 	install -d '$(DESTDIR)$(PREFIX)/include' '$(DESTDIR)$(PREFIX)/lib/pkgconfig'

@@ -1,8 +1,10 @@
 /*
- * daemon FILE..: checks plan files, as a detector daemon does before it hands a plan to a head.
+ * daemon [PLAN].. [--tasks FILE]..: checks plans and lists of tasks, as a detector daemon does
+ * before it hands a plan to a head and books tasks on it.
  *
- * Prints a line for each file: its name, the verdict, and for a refused plan the refusal number and
- * the reason. Exit status: 0 all are accepted; 1 one is refused or cannot be read; 2 no file named.
+ * Prints a line for each file: its name, the verdict, and for a refused file the refusal number and
+ * the reason, for an accepted list of tasks its load. Exit status: 0 all are accepted; 1 one is
+ * refused or cannot be read; 2 no file is named.
  */
 #include <errno.h>
 #include <stdio.h>
@@ -10,7 +12,10 @@
 
 #include "rikkovan.h"
 
-/* What follows in a longer file is not read: such a file is refused for its length. */
+/*
+ * What follows in a longer file is not read: such a file is refused for its length, as a list of
+ * tasks too, since 4,096 is not a multiple of 9.
+ */
 #define READ_MAX 4096
 
 /* Reads a file, up to READ_MAX bytes. Answers 0, or -1 with errno set. */
@@ -29,40 +34,86 @@ static int read_file(const char *name, uint8_t bytes[READ_MAX], size_t *len)
     return failed ? -1 : 0;
 }
 
-/* Prints the verdict on one file. Answers 0 if it is accepted, else 1. */
-static int check_file(const char *name, int width)
+static void print_refusal(const char *name, int width, unsigned long number)
+{
+    printf("%-*s  refused %2lu  %s\n", width, name, number, rikkovan_refusal_text(number));
+}
+
+/* Prints the verdict on a plan. Answers 0 if it is accepted, else 1. */
+static int check_plan(const char *name, int width, const uint8_t *bytes, size_t len)
+{
+    uint64_t answer = rikkovan_plan_check(bytes, len);
+
+    if (answer != RIKKOVAN_ACCEPTED) {
+        print_refusal(name, width, (unsigned long)answer);
+        return 1;
+    }
+    printf("%-*s  accepted\n", width, name);
+    return 0;
+}
+
+/* Prints the verdict on a list of tasks. Answers 0 if it is accepted, else 1. */
+static int check_tasks(const char *name, int width, const uint8_t *bytes, size_t len)
+{
+    uint64_t answer = rikkovan_load_check(bytes, len);
+
+    if (RIKKOVAN_REFUSED(answer)) {
+        print_refusal(name, width, rikkovan_refusal(answer));
+        return 1;
+    }
+    printf("%-*s  accepted    load %lu cycles per second\n", width, name,
+           (unsigned long)rikkovan_load(answer));
+    return 0;
+}
+
+typedef int check(const char *name, int width, const uint8_t *bytes, size_t len);
+
+/* Reads a file and prints the verdict on it. Answers 0 if it is accepted, else 1. */
+static int check_file(check *verdict, const char *name, int width)
 {
     uint8_t bytes[READ_MAX];
     size_t len;
-    uint64_t answer;
 
     if (read_file(name, bytes, &len) != 0) {
         fprintf(stderr, "daemon: %s: %s\n", name, strerror(errno));
         return 1;
     }
-    answer = rikkovan_plan_check(bytes, len);
-    if (answer == RIKKOVAN_ACCEPTED) {
-        printf("%-*s  accepted\n", width, name);
-        return 0;
+    return verdict(name, width, bytes, len);
+}
+
+static int is_option(const char *argument)
+{
+    return strcmp(argument, "--tasks") == 0;
+}
+
+/* The width of the longest name of a file, or 0 where none is named or --tasks has none. */
+static int width_of_names(int argc, char **argv)
+{
+    int i, width = 0;
+
+    for (i = 1; i < argc; i++) {
+        if (is_option(argv[i]) && ++i == argc)
+            return 0;
+        if ((int)strlen(argv[i]) > width)
+            width = (int)strlen(argv[i]);
     }
-    printf("%-*s  refused %2lu  %s\n", width, name, (unsigned long)answer,
-           rikkovan_refusal_text(answer));
-    return 1;
+    return width;
 }
 
 int main(int argc, char **argv)
 {
-    int i, width = 0, status = 0;
+    int i, width = width_of_names(argc, argv), status = 0;
 
-    if (argc < 2) {
-        fprintf(stderr, "usage: daemon FILE..\n");
+    if (width == 0) {
+        fprintf(stderr, "usage: daemon [PLAN].. [--tasks FILE]..\n");
         return 2;
     }
-    for (i = 1; i < argc; i++)
-        if ((int)strlen(argv[i]) > width)
-            width = (int)strlen(argv[i]);
-    for (i = 1; i < argc; i++)
-        status |= check_file(argv[i], width);
+    for (i = 1; i < argc; i++) {
+        if (is_option(argv[i]))
+            status |= check_file(check_tasks, argv[++i], width);
+        else
+            status |= check_file(check_plan, argv[i], width);
+    }
     if (fflush(stdout) != 0) {
         perror("daemon: standard output");
         return 1;

@@ -125,7 +125,7 @@ uint64_t rikkovan_plan_check(const uint8_t *plan, size_t plan_len);
  *
  * A head record is the state of a detector head: its registers, its ready flags and its booked
  * tasks. It is lent as a buffer of 255 bytes. The record stands at the front; the bytes past it may
- * hold anything, and a reading does not look at them. Numbers of two and four bytes have their high
+ * hold anything, and no call looks at them. Numbers of two and four bytes have their high
  * byte first.
  */
 #define RIKKOVAN_HEAD_BYTES 255
@@ -204,8 +204,8 @@ uint64_t rikkovan_plan_check(const uint8_t *plan, size_t plan_len);
  *   bits 48 to 62  the number of answers taken
  *   bit 63         1 where the call is refused
  *
- * The value is 0 where nothing else is said of the call. A reading writes no entry and takes no
- * answer, so its word is 0 where it is done.
+ * The value is 0 where nothing else is said of the call. Readings, bookings and releases write no
+ * entry and take no answer, so their word is 0 where they are done.
  *
  * A head is refused, by the first of these tests that fails, with
  *
@@ -336,13 +336,14 @@ uint64_t rikkovan_read_lpsys(const uint8_t *head, size_t head_len,
  * the word counts their entries. Every other refusal leaves head and journal as they were, and
  * counts no entries.
  *
- * Of a head, a call changes just what its comment says, and no byte past the record.
+ * Of a head, a call changes just what its comment says, and no byte past the record, but for a
+ * booking, which puts its task there.
  */
 #define RIKKOVAN_JOURNAL_WORDS 128 /* the fewest words of a journal */
 #define RIKKOVAN_ENTRY_DELAY 48    /* the number of a delay */
 
 #define RIKKOVAN_REFUSED_JOURNAL 17         /* journal_len is below 128 */
-#define RIKKOVAN_REFUSED_HCLK_UNREADABLE 34 /* there is a delay, and HCLK reads as none */
+#define RIKKOVAN_REFUSED_HCLK_UNREADABLE 34 /* HCLK reads as none at a delay or a booking */
 
 /* The number of an entry: a register, or RIKKOVAN_ENTRY_DELAY. */
 static inline uint32_t rikkovan_entry_number(uint32_t entry)
@@ -627,11 +628,89 @@ uint64_t rikkovan_reconfigure_sysclk(uint8_t *head, size_t head_len, const uint8
                                      const uint16_t *answers, size_t answers_len);
 
 /*
+ * Tasks
+ * =====
+ *
+ * A task needs so many core cycles in each period. Its record is nine bytes: id, cycles and period,
+ * as in a head. Its share is what it needs in a second,
+ *
+ *   cycles * 1,000,000 / period, rounded up
+ *
+ * and the load of several tasks is the sum of their shares, in cycles per second. It can be carried
+ * by an HCLK of that many Hz or more.
+ */
+#define RIKKOVAN_TASK_BYTES 9
+#define RIKKOVAN_MOST_TASKS 16
+
+#define RIKKOVAN_REFUSED_TASK 16       /* id or cycles 0, or period outside 1 to 10,000,000 us */
+#define RIKKOVAN_REFUSED_LOAD 39       /* the load is above HCLK */
+#define RIKKOVAN_REFUSED_ID_IN_USE 40  /* another task has the id */
+#define RIKKOVAN_REFUSED_TASKS 41      /* there are more than 16 tasks */
+#define RIKKOVAN_REFUSED_ID_UNKNOWN 42 /* no task has the id */
+
+/*
+ * Checks a list of tasks, and gives its load.
+ *
+ *   tasks      the records, one behind the other; they are only read
+ *   tasks_len  the number of bytes at tasks, nine for each task; 0 for no task, whose load is 0
+ *
+ * Answers the load, or the refusal number with bit 63 set: RIKKOVAN_REFUSED and rikkovan_refusal
+ * take it, and rikkovan_load. No load has bit 63; the largest is 68,719,476,720,000,000. The answer
+ * depends on these bytes and on nothing else.
+ *
+ * Refusals, each tested of the whole list before the next: RIKKOVAN_REFUSED_LENGTH where the bytes
+ * are not nine each, RIKKOVAN_REFUSED_TASKS, RIKKOVAN_REFUSED_TASK, RIKKOVAN_REFUSED_ID_IN_USE.
+ */
+uint64_t rikkovan_load_check(const uint8_t *tasks, size_t tasks_len);
+
+/* The load, 0 where the load check is refused. */
+static inline uint64_t rikkovan_load(uint64_t answer)
+{
+    return RIKKOVAN_REFUSED(answer) ? 0 : answer;
+}
+
+/*
+ * Books a task on a head, where the present HCLK carries it beside the tasks that are booked.
+ *
+ *   head       the buffer with the record
+ *   head_len   the number of bytes at head
+ *   id         1 to 255, that of no booked task
+ *   cycles     core cycles in each period, 1 or more
+ *   period_us  the period in microseconds, 1 to 10,000,000
+ *
+ * The task goes behind the last one, into bytes that were past the record: 9 bytes there, the
+ * number of tasks and the length field change, and nothing else. HCLK is what rikkovan_read_clocks
+ * gives, whatever the low-power select holds. rikkovan_init and rikkovan_reconfigure_sysclk do not
+ * look at the load: after them it may be above HCLK.
+ *
+ * Refusals, in this order: the head's, RIKKOVAN_REFUSED_TASK, RIKKOVAN_REFUSED_ID_IN_USE,
+ * RIKKOVAN_REFUSED_TASKS where sixteen are booked, RIKKOVAN_REFUSED_HCLK_UNREADABLE,
+ * RIKKOVAN_REFUSED_LOAD where the load with the new task is above HCLK. A refusal changes nothing.
+ */
+uint64_t rikkovan_book(uint8_t *head, size_t head_len, uint8_t id, uint32_t cycles,
+                       uint32_t period_us);
+
+/*
+ * Releases a task of a head.
+ *
+ *   head      the buffer with the record
+ *   head_len  the number of bytes at head
+ *   id        the id of a booked task
+ *
+ * The tasks behind it move up by one place, and the number of tasks and the length field follow.
+ * The bytes past the shorter record stay: the place that was the last one keeps what it held.
+ * HCLK need not read.
+ *
+ * Refusals, in this order: the head's, RIKKOVAN_REFUSED_ID_UNKNOWN. A refusal changes nothing.
+ */
+uint64_t rikkovan_release(uint8_t *head, size_t head_len, uint8_t id);
+
+/*
  * A refusal number in words: one line of text in static storage, never NULL.
  *
  * Numbers 1 to 18 refuse what a call was given, and 31 to 43 the state of the head. The plan check
- * answers 1 to 14 and a reading 1 to 3; of each other call its comment names them. The rest belong
- * to calls that are not in this header yet.
+ * answers 1 to 14 and a reading 1 to 3; of each other call its comment names them. 37 and 38
+ * belong to a call that is not in this header yet.
  * For the word of a call on a head: rikkovan_refusal_text(rikkovan_refusal(word)).
  */
 static inline const char *rikkovan_refusal_text(uint64_t number)
@@ -665,9 +744,9 @@ static inline const char *rikkovan_refusal_text(uint64_t number)
     case 37: return "the head is not fit for a guarded change";
     case 38: return "HXT48 is not ready, or HRC48 is planned and not ready";
     case 39: return "the load is above HCLK";
-    case 40: return "the task id is in use already";
-    case 41: return "there would be more than sixteen tasks";
-    case 42: return "the task id is unknown";
+    case 40: return "a task's id is in use already";
+    case 41: return "there are more than sixteen tasks";
+    case 42: return "no task has the id";
     case 43: return "the LPSYS HCLK cannot be read";
     default: return "unknown number";
     }

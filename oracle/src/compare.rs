@@ -1,4 +1,5 @@
-//! `oracle compare`: librikkovan.a against the original code.
+//! `oracle compare`: librikkovan.a against the original code, and its tasks
+//! against document 01.
 
 use crate::tally::Tally;
 use crate::{compare_head, compare_plan};
@@ -7,17 +8,20 @@ use crate::{compare_head, compare_plan};
 use crate::compare_config;
 #[cfg(feature = "lpsys-request")]
 use crate::compare_lpsys;
+#[cfg(feature = "tasks")]
+use crate::compare_tasks;
 
 /// What is compared, by the names that `--only` takes.
-pub const PARTS: [&str; 4] = ["plan", "heads", "lpsys", "config"];
+pub const PARTS: [&str; 5] = ["plan", "heads", "lpsys", "config", "tasks"];
 
 /// How much is compared.
 #[derive(Clone, Copy, Default)]
 pub struct Extent {
     /// A bounded part.
     pub quick: bool,
-    /// Random plans, random heads, random calls of LPSYS, and random calls of
-    /// `clock_config.rs` each go on for so many seconds at least.
+    /// Random plans, random heads, random calls of LPSYS, those of
+    /// `clock_config.rs` and those of tasks each go on for so many seconds at
+    /// least.
     pub seconds: u64,
 }
 
@@ -42,6 +46,8 @@ fn part_of(part: &str, extent: Extent) -> Tally {
         "lpsys" => compare_lpsys::run(extent),
         #[cfg(feature = "config")]
         "config" => compare_config::run(extent),
+        #[cfg(feature = "tasks")]
+        "tasks" => compare_tasks::run(extent),
         _ => Tally::default(),
     }
 }

@@ -150,19 +150,38 @@ fn registers(bytes: &[u8]) -> Result<Registers, u64> {
 fn tasks(bytes: &[u8]) -> Result<Vec<Task>, u64> {
     let mut tasks: Vec<Task> = Vec::new();
     for record in bytes.chunks_exact(TASK) {
-        let task = Task {
-            id: record[0],
-            cycles: u32::from_be_bytes([record[1], record[2], record[3], record[4]]),
-            period_us: u32::from_be_bytes([record[5], record[6], record[7], record[8]]),
-        };
-        let fit =
-            task.id != 0 && task.cycles != 0 && (1..=LONGEST_PERIOD).contains(&task.period_us);
-        if !fit || tasks.iter().any(|other| other.id == task.id) {
+        let task = Task::decode(record);
+        if !task.is_legal() || tasks.iter().any(|other| other.id == task.id) {
             return Err(3);
         }
         tasks.push(task);
     }
     Ok(tasks)
+}
+
+impl Task {
+    /// From its nine bytes.
+    pub fn decode(record: &[u8]) -> Self {
+        Self {
+            id: record[0],
+            cycles: u32::from_be_bytes([record[1], record[2], record[3], record[4]]),
+            period_us: u32::from_be_bytes([record[5], record[6], record[7], record[8]]),
+        }
+    }
+
+    /// Its nine bytes.
+    pub fn encode(&self) -> [u8; TASK] {
+        let mut record = [0; TASK];
+        record[0] = self.id;
+        record[1..5].copy_from_slice(&self.cycles.to_be_bytes());
+        record[5..].copy_from_slice(&self.period_us.to_be_bytes());
+        record
+    }
+
+    /// Not what 16 refuses.
+    pub fn is_legal(&self) -> bool {
+        self.id != 0 && self.cycles != 0 && (1..=LONGEST_PERIOD).contains(&self.period_us)
+    }
 }
 
 impl Head {
@@ -206,9 +225,7 @@ impl Head {
         buffer[at::COUNT] = self.tasks.len() as u8;
         for (index, task) in self.tasks.iter().enumerate() {
             let at = at::TASKS + TASK * index;
-            buffer[at] = task.id;
-            buffer[at + 1..at + 5].copy_from_slice(&task.cycles.to_be_bytes());
-            buffer[at + 5..at + 9].copy_from_slice(&task.period_us.to_be_bytes());
+            buffer[at..at + TASK].copy_from_slice(&task.encode());
         }
     }
 }

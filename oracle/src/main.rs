@@ -1,5 +1,5 @@
-//! Compares librikkovan.a with the original clock code, records the original's
-//! answers, and measures both.
+//! Compares librikkovan.a with the original clock code, and its tasks with
+//! document 01; records the answers, and measures both.
 
 mod bench;
 mod compare;
@@ -41,6 +41,22 @@ mod ffi_config;
 #[cfg(feature = "config")]
 mod record_config;
 
+// What it exports of tasks.
+#[cfg(feature = "tasks")]
+mod compare_booking;
+#[cfg(feature = "tasks")]
+mod compare_load;
+#[cfg(feature = "tasks")]
+mod compare_tasks;
+#[cfg(feature = "tasks")]
+mod ffi_tasks;
+#[cfg(feature = "tasks")]
+mod record_tasks;
+#[cfg(feature = "tasks")]
+mod task_calls;
+#[cfg(feature = "tasks")]
+mod task_inputs;
+
 #[cfg(any(feature = "lpsys-request", feature = "config"))]
 mod ran;
 
@@ -55,12 +71,13 @@ usage: oracle compare [--quick] [--seconds N] [--only PART]..
        oracle bench
 
 compare  the plan check, the readings, the calls of LPSYS and those of
-         clock_config.rs of librikkovan.a against the original; exit status 1 on a
-         difference. --quick: a bounded part. --seconds N: random plans, random
-         heads and random calls of either sort go on for N seconds at least each.
-         --only PART: plan, heads, lpsys or config; may be given several times.
-record   writes DIR/plans.txt, DIR/heads.txt, DIR/lpsys.txt and DIR/config.txt:
-         plans, heads and calls in hex and the original's answers.
+         clock_config.rs of librikkovan.a against the original, and load check,
+         booking and release against document 01; exit status 1 on a difference.
+         --quick: a bounded part. --seconds N: random plans, random heads and
+         random calls of each sort go on for N seconds at least each. --only PART:
+         plan, heads, lpsys, config or tasks; may be given several times.
+record   writes DIR/plans.txt, DIR/heads.txt, DIR/lpsys.txt, DIR/config.txt and
+         DIR/tasks.txt: plans, heads and calls in hex and the answers to them.
 bench    nanoseconds per plan check, reading and call of clock_config.rs of both.";
 
 fn main() -> ExitCode {

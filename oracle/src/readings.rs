@@ -19,6 +19,11 @@ pub fn read_lpsys(head: &Head) -> LpsysFrequencies {
     reading(head.clone(), lpsys_in_place)
 }
 
+/// `get_hclk_freq`, none where it does not read.
+pub fn hclk(head: &Head) -> Option<u32> {
+    reading(head.clone(), || rcc::get_hclk_freq().map(|hertz| hertz.0))
+}
+
 /// Both readings of a head, or the text of the panic that ended one.
 pub fn both(head: Head) -> Result<(Frequencies, LpsysFrequencies), String> {
     let read = || (frequencies(&clocks_in_place()), lpsys_in_place());

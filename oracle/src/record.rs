@@ -1,5 +1,6 @@
-//! `oracle record`: plans, heads and calls with the original's answers, for a
-//! program that replays them. The same files each time.
+//! `oracle record`: plans, heads and calls with the original's answers, and of
+//! tasks with document 01's, for a program that replays them. The same files each
+//! time.
 
 use crate::tally::{ANSWERS, hex};
 use crate::{record_head, record_plan};
@@ -12,6 +13,8 @@ use std::path::Path;
 use crate::record_config;
 #[cfg(feature = "lpsys-request")]
 use crate::record_lpsys;
+#[cfg(feature = "tasks")]
+use crate::record_tasks;
 
 /// Every answer of plans and heads is there at least this often.
 const FEWEST: usize = 20;
@@ -32,8 +35,8 @@ impl Lines {
         }
     }
 
-    /// Adds an input with the original's answer: 0 or the refusal number, and
-    /// as text.
+    /// Adds an input with the answer to it: 0 or the refusal number, and as
+    /// text.
     pub fn add(&mut self, input: String, (answer, text): (u64, String)) {
         if !self.seen.contains(&input) {
             self.answers[answer as usize] += 1;
@@ -97,5 +100,7 @@ pub fn run(directory: &Path) -> io::Result<()> {
     record_lpsys::write(directory)?;
     #[cfg(feature = "config")]
     record_config::write(directory)?;
+    #[cfg(feature = "tasks")]
+    record_tasks::write(directory)?;
     Ok(())
 }

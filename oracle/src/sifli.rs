@@ -30,6 +30,7 @@ pub mod plan;
 pub mod random;
 pub mod rcc;
 pub mod readings;
+pub mod tasks;
 pub mod world;
 
 #[cfg(test)]

@@ -12,9 +12,9 @@ pub const ANSWERS: usize = 44;
 pub struct Tally {
     pub compared: u64,
     pub different: u64,
-    /// How often the original gave each answer.
+    /// How often each answer was the wanted one.
     answers: [u64; ANSWERS],
-    /// The most entries that the original wrote.
+    /// The most entries that were wanted.
     entries: usize,
     /// How often a done call had a refusal number, or 0, as its value.
     values: [u64; ANSWERS],
@@ -33,7 +33,7 @@ impl Default for Tally {
 }
 
 impl Tally {
-    /// Counts an input with the original's answer, 0 or a refusal number.
+    /// Counts an input with the wanted answer, 0 or a refusal number.
     pub fn count(&mut self, answer: u64) {
         self.compared += 1;
         if let Some(count) = self.answers.get_mut(answer as usize) {
@@ -58,10 +58,10 @@ impl Tally {
 
     /// Counts and prints an input whose answers differ.
     #[cold]
-    pub fn differ(&mut self, input: impl Display, original: impl Display, ours: impl Display) {
+    pub fn differ(&mut self, input: impl Display, wanted: impl Display, ours: impl Display) {
         self.different += 1;
         if self.different <= SHOWN {
-            println!("  differs: {input} original {original}, rikkovan {ours}");
+            println!("  differs: {input} wanted {wanted}, rikkovan {ours}");
         }
     }
 
@@ -90,14 +90,27 @@ impl Tally {
 /// The groups of one call: each is compared, printed and added.
 pub struct Groups {
     call: &'static str,
+    /// What the call is held to.
+    wanted: &'static str,
     sum: Tally,
 }
 
 impl Groups {
+    /// A call that is held to the original code.
     pub fn new(call: &'static str) -> Self {
         Self {
             call,
+            wanted: "the original",
             sum: Tally::default(),
+        }
+    }
+
+    /// A call that is held to document 01.
+    #[cfg(feature = "tasks")]
+    pub fn ruled(call: &'static str) -> Self {
+        Self {
+            wanted: "document 01",
+            ..Self::new(call)
         }
     }
 
@@ -113,7 +126,8 @@ impl Groups {
     pub fn finish(mut self, answers: &[usize]) -> Tally {
         let (call, sum) = (self.call, &self.sum);
         println!(
-            "{call}, answers of the original: {}",
+            "{call}, answers of {}: {}",
+            self.wanted,
             counted(answers, &sum.answers)
         );
         if sum.entries > 0 {

@@ -8,6 +8,7 @@ mod readings;
 mod reconfigure;
 mod record;
 mod replay;
+mod tasks;
 
 use crate::head::Head;
 use crate::world::entry;

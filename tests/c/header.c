@@ -20,5 +20,7 @@ int main(void)
         return 1;
     if (rikkovan_value(word) != 0 || rikkovan_entries(word) != 0 || rikkovan_taken(word) != 0)
         return 1;
+    if (rikkovan_load(rikkovan_load_check(plan, 0)) != 0)
+        return 1;
     return rikkovan_refusal_text(rikkovan_refusal(word)) == NULL;
 }

@@ -38,6 +38,10 @@ plans_are_made_again() {
     tools/make-plans.sh "$work/plans" && diff -r "$work/plans" examples/plans
 }
 
+tasks_are_made_again() {
+    tools/make-tasks.sh "$work/made-tasks" && diff -r "$work/made-tasks" examples/tasks
+}
+
 # Runs the daemon and compares its exit status.
 daemon_ends_with() { # STATUS FILE..
     local wanted=$1 status=0
@@ -55,9 +59,31 @@ daemon_on_plans() (
         diff tests/c/daemon.expected "$work/verdicts"
 )
 
+daemon_on_tasks() (
+    export LC_ALL=C
+    arguments=()
+    for file in examples/tasks/*.tasks; do
+        arguments+=(--tasks "$file")
+    done
+    daemon_ends_with 1 "${arguments[@]}" >"$work/verdicts" &&
+        diff tests/c/daemon-tasks.expected "$work/verdicts"
+)
+
+daemon_on_plan_and_tasks() {
+    local plan=examples/plans/default.plan tasks=examples/tasks/three.tasks
+    daemon_ends_with 0 "$plan" --tasks "$tasks" >"$work/verdicts" &&
+        grep -x "$plan  *accepted" "$work/verdicts" &&
+        grep -x "$tasks  *accepted  *load 240000000 cycles per second" "$work/verdicts"
+}
+
 daemon_on_long_file() {
     { cat examples/plans/default.plan && head -c 10000 /dev/zero; } >"$work/long"
     daemon_ends_with 1 "$work/long" | grep 'refused  1 '
+}
+
+daemon_on_long_tasks() {
+    head -c 9000 /dev/zero >"$work/long"
+    daemon_ends_with 1 --tasks "$work/long" | grep 'refused  1 '
 }
 
 # An unreadable file is named on standard error, and the files after it are still checked.
@@ -96,14 +122,20 @@ check 'readings' calls readings
 check 'LPSYS request' calls lpsys_request
 check 'the other LPSYS calls' calls lpsys_calls
 check 'calibration, init and reconfigure' calls clock_config
+check 'load check, booking and release' calls tasks
 check 'make-plans.sh writes the shipped plans' plans_are_made_again
+check 'make-tasks.sh writes the shipped tasks' tasks_are_made_again
 check 'daemon on the shipped plans' daemon_on_plans
+check 'daemon on the shipped tasks' daemon_on_tasks
+check 'daemon on a plan and tasks' daemon_on_plan_and_tasks
 check 'daemon on an accepted plan ends with 0' daemon_ends_with 0 examples/plans/default.plan
 check 'daemon on a refused plan ends with 1' daemon_ends_with 1 examples/plans/short.plan
 check 'daemon on a file of 10,020 bytes' daemon_on_long_file
+check 'daemon on tasks of 9,000 bytes' daemon_on_long_tasks
 check 'daemon on a missing file' daemon_on_unreadable "$work/missing"
 check 'daemon on a folder' daemon_on_unreadable "$work"
 check 'daemon without a file ends with 2' daemon_ends_with 2
+check 'daemon with --tasks alone ends with 2' daemon_ends_with 2 examples/plans/default.plan --tasks
 check 'make install' installs
 check 'make install with DESTDIR' installs_below_destdir
 if command -v pkg-config >/dev/null; then

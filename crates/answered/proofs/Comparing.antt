@@ -4,8 +4,8 @@ use mathlib.Core.Path.{_≡_, _∙_}
 use mathlib.Core.List.{List, _++_}
 use native.Mathlib.Omega.{arith}
 use lib.ListN.{length}
-use Rattle.lines.specs.Text.{Puts}
-use Rattle.lines.proofs.Putting.{puts-then}
+use Rattle.text.specs.Text.{Puts}
+use Rattle.text.proofs.Putting.{puts-then}
 use Rattle.answered.specs.Left.{Matches}
 
 pub same-line : {line given left t t' t'' j : List ℕ} {m end entries : ℕ} → Puts given t 0 t' m → Puts left t' m t'' end → Matches line j entries t'' end →

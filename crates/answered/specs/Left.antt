@@ -7,8 +7,8 @@ use lib.ListN.{length, take, getD}
 use Rattle.record.specs.Bytes.{twoBytes}
 use Rattle.call.specs.Call.{Result}
 use Rattle.call.specs.declared.Answer.{Answer}
-use Rattle.lines.specs.Decimal.{decimalOf}
-use Rattle.lines.specs.Hex.{hexField}
+use Rattle.text.specs.Decimal.{decimalOf}
+use Rattle.text.specs.Hex.{hexField}
 
 -- what each word of the journal holds before a call
 abbrev pub unused : ℕ

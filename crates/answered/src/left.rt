@@ -3,15 +3,14 @@ ghost use Prim.Native.Nat.{_≤_, _*_};
 ghost use mathlib.Core.Path.{_≡_};
 ghost use mathlib.Core.Bool.{true};
 ghost use lib.ListN.{length, take};
-ghost use Rattle.lines.specs.Hex.{FieldWithin};
-ghost use Rattle.lines.specs.Text.{Puts};
+ghost use Rattle.fields.specs.Hex.{FieldWithin};
+ghost use Rattle.text.specs.Text.{Puts};
 ghost use Rattle.answered.specs.Answer.{AnswerWithin};
 ghost use Rattle.answered.specs.Left.{joined, leftText, Keeps, Matches};
 use crate::answer::Outcome;
 use call::Answer;
-use lines::hex;
-use lines::hex::Field;
-use lines::text;
+use fields::hex;
+use fields::hex::Field;
 
 // What each word of the journal holds before a call; no entry has this number.
 pub const UNUSED: u32 = 0xA5A5A5A5;

@@ -14,9 +14,11 @@ use Rattle.time.specs.declared.Reading.the-variants.{At, Unreadable}
 use Rattle.head.specs.declared.Head.{Head}
 use Rattle.register.specs.Word.{wordOf}
 use Rattle.clock_read.specs.Hpsys.{hclkOf}
-use Rattle.journal.specs.Run.{Run, Effect, begin, _▸_, going, ended, entry, store, cycles, delayed, delay, Poll, hit, dry, poll, waited, measured, measure}
-use Rattle.calibration.specs.Calibration.{measurement, hxtCnt, hrcCnt, nextTrim, difference, judged, adjusted, search, calibrate, calibrateHrc48}
-use Rattle.calibration.proofs.Laws.{Ranged, ranged-first, ranged-next}
+use Rattle.journal.specs.Run.{Run, Effect, begin, idle, _▸_, going, ended, halted, entry, store, cycles, delayed, delay, Poll, hit, dry, poll, waited, measured, measure}
+use Rattle.measurement.specs.Measurement.{measurement, hxtCnt, hrcCnt, difference, judged}
+use Rattle.trim_search.specs.Search.{nextTrim, adjusted, search}
+use Rattle.trim_search.proofs.Laws.{Ranged, ranged-first, ranged-next}
+use Rattle.calibration.specs.Calibration.{calibrate, calibrateHrc48}
 
 -- an entry that stores register 19 has a value in 1 to 1023
 abbrev pub TrimWithin : ℕ → Type 0
@@ -72,15 +74,22 @@ keeps-measure a = keeps-going (record { keeps = λ r t. by (poll (drop (r .taken
     by (hit n) r t = either (leb (r .taken + n + 2) (length a)) (n + 2) r t
     by dry r t = t
 
--- the verdict on the final difference writes nothing
-pub judged-keeps : (d : ℕ) (r : Run) → (judged d r .entries ≡ r .entries) × (judged d r .head ≡ r .head)
-unfolding judged going
-judged-keeps d r = by (eqb (r .stop) 0) (ltb 160 d)
+-- a refusal and the verdict on the final difference write nothing
+halted-keeps : (n : ℕ) (r : Run) → (halted n r .entries ≡ r .entries) × (halted n r .head ≡ r .head)
+unfolding halted going
+halted-keeps n r = by (eqb (r .stop) 0)
   where
-    by : (t u : Bool) → (cond t (cond u (ended 33 (r .taken) r) r) r .entries ≡ r .entries) × (cond t (cond u (ended 33 (r .taken) r) r) r .head ≡ r .head)
-    by true true = (refl, refl)
-    by true false = (refl, refl)
-    by false u = (refl, refl)
+    by : (t : Bool) → (cond t (ended n (r .taken) r) r .entries ≡ r .entries) × (cond t (ended n (r .taken) r) r .head ≡ r .head)
+    by true = (refl, refl)
+    by false = (refl, refl)
+
+pub judged-keeps : (d : ℕ) (r : Run) → (judged d r .entries ≡ r .entries) × (judged d r .head ≡ r .head)
+unfolding judged
+judged-keeps d r = by (ltb 160 d)
+  where
+    by : (t : Bool) → (cond t (halted 33) idle r .entries ≡ r .entries) × (cond t (halted 33) idle r .head ≡ r .head)
+    by true = halted-keeps 33 r
+    by false = (refl, refl)
 
 keeps-judged : (d : ℕ) → Keeps (judged d)
 keeps-judged d = record { keeps = λ r t. rw (judged-keeps d r .0) t }
@@ -107,14 +116,14 @@ keeps-search (suc n) trim step d a s =
 
 keeps-calibrate : (a : List ℕ) → Keeps (calibrateHrc48 a)
 unfolding calibrate calibrateHrc48
-keeps-calibrate a = keeps-going (record { keeps = λ r t. by (r .head .«hxt48_ready») r t })
+keeps-calibrate a = record { keeps = λ r t. by (r .head .«hxt48_ready») r t }
   where
     all : Keeps (calibrate a)
     all = keeps-then (keeps-then (keeps-store 20 0x3fff (λ e. absurd (omega arith))) (keeps-store 18 (wordOf 0 3 3) (λ e. absurd (omega arith)))) (keeps-search 11 0x200 0x100 0 a ranged-first)
 
-    by : (b : Bool) (r : Run) → TrimsWithin (r .entries) → TrimsWithin (cond b (calibrate a r) (ended 31 (r .taken) r) .entries)
+    by : (b : Bool) (r : Run) → TrimsWithin (r .entries) → TrimsWithin (cond b (calibrate a) (halted 31) r .entries)
     by true r t = all .keeps r t
-    by false r t = t
+    by false r t = rw (halted-keeps 31 r .0) t
 
 -- every trim that calibration stores is 1 to 1023, whatever is counted
 pub trims-within : (a : List ℕ) (h : Head) → TrimsWithin (calibrateHrc48 a (begin h) .entries)

@@ -51,9 +51,13 @@ module _ {ts : List ℕ} {b : List ℕ} {o : Admitted} (x : Admits ts b o) where
   call-unadmitted ns f v j r z e =
       rw e (answers-refused (firstOf (ts ++ ns)) (o .refusal) f v b j (first-refuses ts ns (λ q. z (x .refusal-is ∙ q)) ∙ sym (x .refusal-is)) z)
 
+  pub call-refused-by : (ns : List ℕ) (n : ℕ) (f : Effect) (v : ℕ) (j : List ℕ) (r : Answer) → o .refusal ≡ 0 → firstOf ns ≡ n → (n ≡ 0 → ⊥) →
+      r ≡ record { refusal = n; value = 0; entries = 0; taken = 0 } → Answers (performed (firstOf (ts ++ ns)) f v b j) r b j
+  call-refused-by ns n f v j r z q w e = rw e (answers-refused (firstOf (ts ++ ns)) n f v b j (first-passes ts ns (passed z) ∙ q) w)
+
   pub call-refused : (ns : List ℕ) (n : ℕ) (f : Effect) (v : ℕ) (j : List ℕ) (r : Answer) → o .refusal ≡ 0 → firstOf ns ≡ suc n →
       r ≡ record { refusal = suc n; value = 0; entries = 0; taken = 0 } → Answers (performed (firstOf (ts ++ ns)) f v b j) r b j
-  call-refused ns n f v j r z q e = rw e (answers-refused (firstOf (ts ++ ns)) (suc n) f v b j (first-passes ts ns (passed z) ∙ q) (λ w. omega arith))
+  call-refused ns n f v j r z q = call-refused-by ns (suc n) f v j r z q (λ w. omega arith)
 
   pub call-ran : (ns : List ℕ) (f : Effect) (v : ℕ) (j b' j' : List ℕ) (m₀ m : Machine) (r : Answer) → o .refusal ≡ 0 → firstOf ns ≡ 0 →
       m₀ ≡ machineOf (begin (o .head)) → Ran f m₀ m j j' → Finishes m v r b b' → Answers (performed (firstOf (ts ++ ns)) f v b j) r b' j'

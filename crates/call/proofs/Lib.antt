@@ -1,3 +1,4 @@
 pub mod Admitting
 pub mod Ending
 pub mod Entries
+pub mod Changed

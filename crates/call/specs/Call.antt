@@ -10,9 +10,13 @@ use Rattle.head.specs.Head.{bufferBytes, headRefusal, headOf, written}
 use Rattle.head.specs.Encodable.{Encodable}
 use Rattle.head.specs.declared.Head.{Head}
 use Rattle.journal.specs.declared.Machine.{Machine}
-use Rattle.journal.specs.Run.{Run, Effect, begin}
+use Rattle.journal.specs.Run.{Run, Effect, begin, headed}
 use Rattle.call.specs.declared.Answer.{Answer}
 use Rattle.call.specs.declared.Admitted.{Admitted}
+
+-- "Calls test 17, 18, the head's 1 to 3, then the rest." Of a call that is lent neither a journal nor answers:
+abbrev pub headTests : List ℕ → List ℕ
+headTests b = headRefusal b ∷ []
 
 -- "17 journal under 128 words; .. Calls test 17, 18, the head's 1 to 3, then the rest." Of a call that is lent no answers:
 abbrev pub journalTests : List ℕ → List ℕ → List ℕ
@@ -57,6 +61,13 @@ journalCall tests f value b j = performed (firstOf (journalTests b j ++ tests)) 
 -- a call that is also lent answers
 abbrev pub answersCall : Effect → List ℕ → List ℕ → List ℕ → Result
 answersCall f b j a = performed (firstOf (answersTests b j a ++ [])) f 0 b j
+
+-- a call that is lent neither, and gives the head as `f` changes it
+abbrev pub changing : (Head → Head) → Effect
+changing f r = headed (f (r .head)) r
+
+abbrev pub headCall : List ℕ → (Head → Head) → List ℕ → Result
+headCall tests f b = performed (firstOf (headTests b ++ tests)) (changing f) 0 b []
 
 -- the code's answer, the buffer and the journal that it leaves are a result's
 pub record Answers (o : Result) (r : Answer) (b' j' : List ℕ) : Type 0 where

@@ -3,7 +3,7 @@ ghost use mathlib.Core.Path.{_≡_};
 ghost use lib.ListN.{length};
 ghost use Rattle.head.specs.Encodable.{Encodable};
 ghost use Rattle.head.specs.Head.{bufferBytes};
-ghost use Rattle.call.specs.Call.{journalTests, answersTests, Admits, Finishes};
+ghost use Rattle.call.specs.Call.{headTests, journalTests, answersTests, Admits, Finishes};
 ghost use Rattle.journal.specs.Run.{begin};
 ghost use Rattle.journal.specs.Machine.{machineOf};
 use head::Head;
@@ -24,6 +24,18 @@ pub struct Answer {
 pub struct Admitted {
     pub refusal: u8,
     pub head: Head,
+}
+
+// The head's 1 to 3.
+pub fn admit_head(buffer: &[u8]) -> Admitted
+    ensures { λ r. ⌜ Admits (headTests (now (buffer .entry))) (now (buffer .entry)) r ⌝ }
+{
+    let decoded = head::decode(buffer);
+    let head = decoded.head;
+    Admitted {
+        refusal: decoded.refusal,
+        head,
+    }
 }
 
 // 17, then the head's 1 to 3.

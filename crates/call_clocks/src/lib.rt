@@ -4,7 +4,7 @@ ghost use mathlib.Core.Bool.{cond};
 ghost use lib.Dec.{eqb};
 ghost use lib.ListN.{replicate};
 ghost use Rattle.head.specs.Encodable.{Encodable};
-ghost use Rattle.clock_read.specs.Clocks.{clocksOf};
+ghost use Rattle.head_clocks.specs.Clocks.{clocksOf};
 ghost use Rattle.call_clocks.specs.Clocks.{withAudioOf};
 use journal::Machine;
 
@@ -18,7 +18,7 @@ pub fn clocks_after(m: Machine) -> [u32; 15]
         return [0; 15];
     }
     let head = m.head;
-    clock_read::numbers(clock_read::read_hpsys_clocks_from_hw(head))
+    head_clocks::numbers(head_clocks::read_hpsys_clocks_from_hw(head))
 }
 
 // The 15 frequencies of a call that is done, with the audio PLL pair of the former ones; else the former ones.
@@ -31,7 +31,7 @@ pub fn clocks_beside(m: Machine, former: [u32; 15]) -> [u32; 15]
         return former;
     }
     let head = m.head;
-    let mut clocks = clock_read::numbers(clock_read::read_hpsys_clocks_from_hw(head));
+    let mut clocks = head_clocks::numbers(head_clocks::read_hpsys_clocks_from_hw(head));
     clocks[13] = former[13];
     clocks[14] = former[14];
     clocks

@@ -13,14 +13,28 @@ use Rattle.verdict.specs.declared.Verdict.the-variants.{Accepted, Refused}
 use Rattle.dvfs.specs.declared.hpsys.HpsysDvfsMode.the-variants.{D0, D1, S0, S1}
 use Rattle.dvfs.specs.declared.hpsys.HpsysModeFound.the-variants.{Mode, OutOfRange}
 use Rattle.dvfs.specs.Hpsys.{modeOf}
-use Rattle.journal.specs.Run.{Run, begin, going, store, cycles, delay, poll, measure}
+use Rattle.journal.specs.Run.{Run, begin, going, halted, store, cycles, delay, poll, measure}
 use Rattle.head.specs.declared.Head.{Head}
-use Rattle.lpsys_request.specs.Request.{dividerFor}
-use Rattle.lpsys_request.proofs.Divider.{source-48}
-use Rattle.task.specs.Task.{noTask}
-use Rattle.clock_read.specs.Hpsys.{sysOf, hclkOf}
-use Rattle.calibration.specs.Calibration.{measurement, nextTrim, difference, judged, adjusted, search, calibrate, calibrateHrc48}
-use Rattle.plan.specs.Plan.{settled, coded, recordRefusal, dllOf, planOf, decoded, encoded, legal, defaultRecord}
+use Rattle.lpsys_modes.specs.Modes.{dividerFor}
+use Rattle.lpsys_modes.proofs.Divider.{source-48}
+use Rattle.head.specs.Head.{lengthFits, headRefusal, headOf, frontOf, stateOf, recordOf, written}
+use Rattle.record.specs.Items.{items, joined}
+use Rattle.register.specs.Word.{wordIn, wordBytes}
+use Rattle.register.specs.Codes.{largest}
+use Rattle.register.specs.Registers.{registersIn}
+use Rattle.task.specs.declared.Task.{Task}
+use Rattle.task.specs.Task.{noTask, taskOk, allOk, hasId, distinct}
+use Rattle.task_bytes.specs.Four.{fourIn, fourBytes}
+use Rattle.task_bytes.specs.Tasks.{taskIn, taskBytes, tasksIn, tasksFit, placesIn}
+use Rattle.load.specs.Load.{shareOf, loadOf}
+use Rattle.call.specs.Call.{Result, performed}
+use Rattle.booking.specs.Booking.{book}
+use Rattle.clock_read.specs.Hpsys.{dllReading, sysOf, hclkOf}
+use Rattle.measurement.specs.Measurement.{measurement, difference, judged}
+use Rattle.trim_search.specs.Search.{nextTrim, adjusted, search}
+use Rattle.calibration.specs.Calibration.{calibrate, calibrateHrc48}
+use Rattle.plan_code.specs.Code.{settled, coded, dllOf}
+use Rattle.plan.specs.Plan.{recordRefusal, planOf, decoded, encoded, legal, defaultRecord}
 use Rattle.plan_clocks.specs.Clocks.{sysHz, hclkHz, pclk1Hz, pclk2Hz, usbHz, usbDivider, targetOf}
 use Rattle.plan_sources.specs.Sources.{coreOnAbsentDll1, coreOnDbl96, flashOnAbsentDll, usbOnAbsentDll2}
 use Rattle.plan_limits.specs.Limits.{usbNot60, dll1CoreTooSlow, hclkTooFast, pclk1TooFast, pclk2TooFast, dll2TooFast}
@@ -117,5 +131,41 @@ calibration-cases :
     -- "160 done, 161 is 33."
     × (calibrated (counted 11 160 0) .stop ≡ 0)
     × (calibrated (counted 11 161 0) .stop ≡ 33)
-unfolding calibrateHrc48 calibrate search adjusted judged measurement nextTrim difference store delay measure poll going hclkOf sysOf divided
+unfolding calibrateHrc48 calibrate search adjusted judged measurement nextTrim difference halted store delay measure poll going hclkOf sysOf divided
 calibration-cases = (refl, refl, refl, refl, refl)
+
+-- a head record of a core at 240 MHz: DLL1 at stage 9, undivided
+abbrev at240 : Head
+at240 =
+    record {
+      regs = set (set (set (replicate 35 0) 1 3) 2 65536) 3 65545;
+      «hxt48_ready» = true;
+      «hrc48_ready» = true;
+      «lpsys_hxt48_ready» = false;
+      «boot_mode» = 0;
+      «wake_count» = 0;
+      tasks = replicate 16 noTask;
+      count = 0;
+    }
+
+-- bookings with a period of 1,000 us, one after the other, of these cycles: what the last one leaves
+abbrev task : ℕ → ℕ → Task
+task id cycles = record { id = id; cycles = cycles; period = 1000 }
+
+abbrev buffer : List ℕ
+buffer = written at240 (replicate 255 0)
+
+abbrev first : Result
+first = book (task 1 120000) buffer
+
+abbrev second : Result
+second = book (task 2 80000) (first .buffer)
+
+task-cases :
+    -- "Period 1,000, cycles 120,000, 80,000: done at 240 MHz; then 40,000 done, or 64,000 refused 39."
+    (first .refusal ≡ 0)
+    × (second .refusal ≡ 0)
+    × (book (task 3 40000) (second .buffer) .refusal ≡ 0)
+    × (book (task 3 64000) (second .buffer) .refusal ≡ 39)
+unfolding book performed firstOf headRefusal lengthFits isWithin largest tasksFit tasksIn items taskIn fourIn allOk taskOk distinct hasId headOf registersIn wordIn placesIn hclkOf sysOf dllReading dllHz divided written recordOf frontOf stateOf joined wordBytes taskBytes fourBytes loadOf shareOf
+task-cases = (refl, refl, refl, refl)

@@ -10,7 +10,7 @@ use Rattle.plan.specs.Plan.{planOf}
 use Rattle.verdict.specs.Verdict.{verdict, numberOf}
 use Rattle.head.specs.declared.Head.{Head}
 use Rattle.head.specs.Head.{headOf}
-use Rattle.clock_read.specs.Clocks.{clocksOf}
+use Rattle.head_clocks.specs.Clocks.{clocksOf}
 use Rattle.journal.specs.Run.{Run, Effect, begin}
 use Rattle.call.specs.Call.{Result, answersTests, performed}
 use Rattle.calibration.specs.Calibration.{calibrateHrc48}

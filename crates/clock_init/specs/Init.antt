@@ -5,7 +5,8 @@ use mathlib.Core.List.{List}
 use lib.Dec.{eqb}
 use Rattle.plan.specs.declared.Plan.{Plan}
 use Rattle.journal.specs.Run.{Run, Effect, idle, _▸_}
-use Rattle.clock_switch.specs.Switch.{dividers, toPlan}
+use Rattle.core_clock.specs.CoreClock.{dividers}
+use Rattle.clock_switch.specs.Switch.{toPlan}
 use Rattle.init_first.specs.First.{initBegin, bootStores, calibrating, warning, initFirst}
 use Rattle.init_rest.specs.Rest.{initRest}
 

@@ -25,7 +25,7 @@ fn init_clock(m: Machine, journal: &mut [u32], answers: &[u16], p: Plan, target:
 {
     let hclk = target.hclk;
     let usb_div = target.usb_div;
-    let m = clock_switch::apply_dividers(m, journal, p);
+    let m = core_clock::apply_dividers(m, journal, p);
     let m = clock_switch::config_hcpu_dvfs(m, journal, answers, p, hclk);
     init_rest::init_rest(m, journal, answers, p, usb_div)
 }

@@ -1,4 +1,4 @@
--- What each LPSYS call leaves, on the bytes lent to it; the setters are in `lpsys_setters`. Assumes nothing.
+-- What each LPSYS call leaves, on the bytes lent to it; the setters are in `lpsys_dividers` and `lpsys_selects`. Assumes nothing.
 use Prim.Native.Nat.{ℕ}
 use mathlib.Core.Bool.{Bool, true, false, _||_}
 use mathlib.Core.List.{List, [], _∷_}
@@ -8,10 +8,11 @@ use Rattle.time.specs.declared.Reading.the-variants.{At, Unreadable}
 use Rattle.time.specs.Frequency.{hzOr}
 use Rattle.record.specs.Refusals.{refuse}
 use Rattle.head.specs.Head.{headOf}
-use Rattle.clock_read.specs.Lpsys.{lpsysHclkOf}
+use Rattle.lpsys_read.specs.Lpsys.{lpsysHclkOf}
 use Rattle.call.specs.Call.{Result, journalCall, answersCall}
 use Rattle.lpsys_request.specs.Request.{request, slowDown}
-use Rattle.lpsys_wake.specs.Wake.{wake, cancel, hxt48Ready}
+use Rattle.lpsys_wake.specs.Wake.{wake, cancel}
+use Rattle.lpsys_hxt48.specs.Hxt48.{hxt48Ready}
 
 -- `config_lpsys_hclk_mhz`; "15 LPSYS request 0 or above 48"
 abbrev pub outOfRange : ℕ → Bool

@@ -1,13 +1,13 @@
-// rcc/clock_lpsys.rs: the calls that set the clocks of the low-power system. Its readings are in `clock_read`.
+// rcc/clock_lpsys.rs: the calls that set the clocks of the low-power system. Its readings are in `lpsys_read`.
 ghost use mathlib.Core.Path.{_≡_};
 ghost use Rattle.call.specs.Call.{Answers};
 ghost use Rattle.clock_lpsys.specs.Calls.{lpsysRequest, safeFrequency, wakeLcpu, cancelLcpu, ensureHxt48};
 use call::Answer;
-pub use lpsys_setters::config_lpsys_mac_clock;
-pub use lpsys_setters::select_lpsys_peri;
-pub use lpsys_setters::select_lpsys_sysclk;
-pub use lpsys_setters::set_lpsys_div;
-pub use lpsys_setters::set_lpsys_hdiv;
+pub use lpsys_dividers::config_lpsys_mac_clock;
+pub use lpsys_dividers::set_lpsys_div;
+pub use lpsys_dividers::set_lpsys_hdiv;
+pub use lpsys_selects::select_lpsys_peri;
+pub use lpsys_selects::select_lpsys_sysclk;
 use time::Megahertz;
 use time::Reading;
 
@@ -40,7 +40,7 @@ pub fn ensure_safe_lcpu_frequency(buffer: &mut [u8], journal: &mut [u32]) -> Ans
         return Answer::refused(admitted.refusal);
     }
     let head = admitted.head;
-    let Reading::At(f) = clock_read::get_lpsys_hclk_freq(head) else {
+    let Reading::At(f) = lpsys_read::get_lpsys_hclk_freq(head) else {
         return Answer::refused(43);
     };
     let m = lpsys_request::slow_down(call::start(head), journal);
@@ -79,6 +79,6 @@ pub fn ensure_hxt48_ready(buffer: &mut [u8], journal: &mut [u32], answers: &[u16
         return Answer::refused(admitted.refusal);
     }
     let head = admitted.head;
-    let m = lpsys_wake::hxt48_ready(call::start(head), journal, answers);
+    let m = lpsys_hxt48::hxt48_ready(call::start(head), journal, answers);
     call::finish(m, 0, buffer)
 }

@@ -1,3 +1,1 @@
 pub mod Hpsys
-pub mod Lpsys
-pub mod Clocks

@@ -1,116 +1,180 @@
-// rcc/clock_read.rs and the readings of rcc/clock_lpsys.rs: frequencies read from a head.
-mod hpsys;
-mod lpsys;
-
+// rcc/clock_read.rs: frequencies of HPSYS read from a head.
 ghost use mathlib.Core.Path.{_≡_};
-ghost use Rattle.head.specs.Head.{headRefusal, headOf};
+ghost use Prim.Native.Nat.{_≤_};
+ghost use Rattle.register.specs.Word.{byteB, byteC};
 ghost use Rattle.head.specs.Encodable.{Encodable};
-ghost use Rattle.clock_read.specs.Clocks.{clocksOf, lpsysOf, listed, unlessRefused};
-use clock::Clocks;
+ghost use Rattle.clock_read.specs.Hpsys.{
+  reg,
+  readyReading,
+  dllReading,
+  dividedReading,
+  shiftedReading,
+  sysOf,
+  hclkOf,
+  pclkOf,
+  pclk2Of,
+  usbSource,
+  usbOf,
+  wdtOf,
+  flashOf,
+};
+use clock::Dll;
 use head::Head;
-pub use hpsys::get_clk_dll1_freq;
-pub use hpsys::get_clk_dll2_freq;
-pub use hpsys::get_clk_mpi1_freq;
-pub use hpsys::get_clk_mpi2_freq;
-pub use hpsys::get_clk_sys_freq;
-pub use hpsys::get_clk_usb_freq;
-pub use hpsys::get_clk_wdt_freq;
-pub use hpsys::get_hclk_freq;
-pub use hpsys::get_pclk_freq;
-pub use hpsys::get_pclk2_freq;
-pub use lpsys::get_lpsys_clk_peri_freq;
-pub use lpsys::get_lpsys_hclk_div;
-pub use lpsys::get_lpsys_hclk_freq;
-pub use lpsys::get_lpsys_mac_clk_freq;
-pub use lpsys::get_lpsys_pclk1_freq;
-pub use lpsys::get_lpsys_pclk2_freq;
-pub use lpsys::get_lpsys_sysclk_freq;
-use time::MaybeHertz;
+use time::Reading;
 
-pub fn read_hpsys_clocks_from_hw(h: Head) -> Clocks
+// HXT48 or HRC48 by its ready flag.
+pub fn ready_freq(ready: bool) -> Reading
+    ensures { λ r. ⌜ r ≡ readyReading ready ⌝ }
+{
+    if ready {
+        Reading::At(clock::CLK_HXT48_FREQ)
+    } else {
+        Reading::Unreadable
+    }
+}
+
+// A DLL by its register.
+fn dll_freq(word: u32) -> Reading
+    requires { ⌜ byteC word ≤ 15 ⌝ }
+    ensures { λ r. ⌜ r ≡ dllReading word ⌝ }
+{
+    if head::a(word) != 1 {
+        return Reading::Unreadable;
+    }
+    let dll = Dll {
+        stage: head::c(word) as u8,
+        half: head::b(word) == 1,
+    };
+    Reading::At(dll.freq_hz())
+}
+
+pub fn divide(f: Reading, divider: u8) -> Reading
+    ensures { λ r. ⌜ r ≡ dividedReading f divider ⌝ }
+{
+    let Reading::At(f) = f else {
+        return Reading::Unreadable;
+    };
+    Reading::At(clock::divide(f, divider))
+}
+
+pub fn prescale(f: Reading, exponent: u8) -> Reading
+    ensures { λ r. ⌜ r ≡ shiftedReading f exponent ⌝ }
+{
+    let Reading::At(f) = f else {
+        return Reading::Unreadable;
+    };
+    Reading::At(clock::prescale(f, exponent))
+}
+
+pub fn get_clk_dll1_freq(h: Head) -> Reading
     requires { ⌜ Encodable h ⌝ }
-    ensures { λ r. ⌜ listed r ≡ clocksOf h ⌝ }
+    ensures { λ r. ⌜ r ≡ dllReading (reg h 3) ⌝ }
 {
-    Clocks {
-        sysclk: MaybeHertz::from_reading(get_clk_sys_freq(h)),
-        hclk: MaybeHertz::from_reading(get_hclk_freq(h)),
-        pclk: MaybeHertz::from_reading(get_pclk_freq(h)),
-        pclk2: MaybeHertz::from_reading(get_pclk2_freq(h)),
-        dll1: MaybeHertz::from_reading(get_clk_dll1_freq(h)),
-        dll2: MaybeHertz::from_reading(get_clk_dll2_freq(h)),
-        clk_peri: MaybeHertz::from_hertz(clock::CLK_HXT48_FREQ),
-        clk_peri_div2: MaybeHertz(24_000_000),
-        clk_usb: MaybeHertz::from_reading(get_clk_usb_freq(h)),
-        clk_wdt: MaybeHertz::from_reading(get_clk_wdt_freq(h)),
-        clk_rtc: MaybeHertz::from_hertz(clock::CLK_LRC10_FREQ),
-        clk_mpi1: MaybeHertz::from_reading(get_clk_mpi1_freq(h)),
-        clk_mpi2: MaybeHertz::from_reading(get_clk_mpi2_freq(h)),
-        clk_aud_pll: MaybeHertz::NONE,
-        clk_aud_pll_div16: MaybeHertz::NONE,
+    dll_freq(h.regs[3])
+}
+
+pub fn get_clk_dll2_freq(h: Head) -> Reading
+    requires { ⌜ Encodable h ⌝ }
+    ensures { λ r. ⌜ r ≡ dllReading (reg h 4) ⌝ }
+{
+    dll_freq(h.regs[4])
+}
+
+pub fn get_clk_sys_freq(h: Head) -> Reading
+    requires { ⌜ Encodable h ⌝ }
+    ensures { λ r. ⌜ r ≡ sysOf h ⌝ }
+{
+    let select = h.regs[1];
+    if select == 0 {
+        return ready_freq(h.hrc48_ready);
+    }
+    if select == 1 {
+        return ready_freq(h.hxt48_ready);
+    }
+    if select == 3 {
+        return get_clk_dll1_freq(h);
+    }
+    Reading::Unreadable
+}
+
+pub fn get_hclk_freq(h: Head) -> Reading
+    requires { ⌜ Encodable h ⌝ }
+    ensures { λ r. ⌜ r ≡ hclkOf h ⌝ }
+{
+    let hdiv = head::a(h.regs[2]) as u8;
+    divide(get_clk_sys_freq(h), hdiv)
+}
+
+pub fn get_pclk_freq(h: Head) -> Reading
+    requires { ⌜ Encodable h ⌝ }
+    ensures { λ r. ⌜ r ≡ pclkOf h ⌝ }
+{
+    let pdiv1 = head::b(h.regs[2]) as u8;
+    prescale(get_hclk_freq(h), pdiv1)
+}
+
+pub fn get_pclk2_freq(h: Head) -> Reading
+    requires { ⌜ Encodable h ⌝ }
+    ensures { λ r. ⌜ r ≡ pclk2Of h ⌝ }
+{
+    let pdiv2 = head::c(h.regs[2]) as u8;
+    prescale(get_hclk_freq(h), pdiv2)
+}
+
+fn usb_source(h: Head) -> Reading
+    requires { ⌜ Encodable h ⌝ }
+    ensures { λ r. ⌜ r ≡ usbSource h ⌝ }
+{
+    let source = h.regs[7];
+    if source == 1 {
+        return get_clk_dll2_freq(h);
+    }
+    get_clk_sys_freq(h)
+}
+
+pub fn get_clk_usb_freq(h: Head) -> Reading
+    requires { ⌜ Encodable h ⌝ }
+    ensures { λ r. ⌜ r ≡ usbOf h ⌝ }
+{
+    let divider = head::c(h.regs[8]) as u8;
+    divide(usb_source(h), divider)
+}
+
+pub fn get_clk_wdt_freq(h: Head) -> Reading
+    ensures { λ r. ⌜ r ≡ wdtOf h ⌝ }
+{
+    let select = h.regs[10];
+    if select == 0 {
+        Reading::At(clock::CLK_LRC10_FREQ)
+    } else {
+        Reading::At(clock::CLK_LRC32_FREQ)
     }
 }
 
-// The numbers of the 15 frequencies, in their order.
-pub fn numbers(c: Clocks) -> [u32; 15]
-    ensures { λ r. ⌜ r ≡ listed c ⌝ }
+// A flash clock by its select.
+fn flash_freq(select: u32, h: Head) -> Reading
+    requires { ⌜ Encodable h ⌝ }
+    ensures { λ r. ⌜ r ≡ flashOf select h ⌝ }
 {
-    [
-        c.sysclk.0,
-        c.hclk.0,
-        c.pclk.0,
-        c.pclk2.0,
-        c.dll1.0,
-        c.dll2.0,
-        c.clk_peri.0,
-        c.clk_peri_div2.0,
-        c.clk_usb.0,
-        c.clk_wdt.0,
-        c.clk_rtc.0,
-        c.clk_mpi1.0,
-        c.clk_mpi2.0,
-        c.clk_aud_pll.0,
-        c.clk_aud_pll_div16.0,
-    ]
-}
-
-// Reads the 15 frequencies of the head in a buffer, and answers 0, or the refusal with `clocks` as it was.
-pub fn read_clocks(buffer: &[u8], clocks: &mut [u32; 15]) -> u8
-    ensures { λ r. ⌜ r ≡ headRefusal (now (buffer .entry)) ⌝ }
-    ensures { λ _. ⌜ now (clocks .exit) ≡ unlessRefused (now (buffer .entry)) (clocksOf (headOf (now (buffer .entry)))) (now (clocks .entry)) ⌝ }
-{
-    let decoded = head::decode(buffer);
-    if decoded.refusal != 0 {
-        return decoded.refusal;
+    if select == 1 {
+        return get_clk_dll1_freq(h);
     }
-    let head = decoded.head;
-    *clocks = numbers(read_hpsys_clocks_from_hw(head));
-    0
-}
-
-// The six frequencies of LPSYS, in their order.
-fn lpsys_numbers(h: Head) -> [u32; 6]
-    ensures { λ r. ⌜ r ≡ lpsysOf h ⌝ }
-{
-    [
-        MaybeHertz::from_reading(get_lpsys_sysclk_freq(h)).0,
-        MaybeHertz::from_reading(get_lpsys_hclk_freq(h)).0,
-        MaybeHertz::from_reading(get_lpsys_pclk1_freq(h)).0,
-        MaybeHertz::from_reading(get_lpsys_pclk2_freq(h)).0,
-        MaybeHertz::from_reading(get_lpsys_clk_peri_freq(h)).0,
-        MaybeHertz::from_reading(get_lpsys_mac_clk_freq(h)).0,
-    ]
-}
-
-// Reads the six frequencies of LPSYS of the head in a buffer, and answers 0, or the refusal with `lpsys` as it was.
-pub fn read_lpsys(buffer: &[u8], lpsys: &mut [u32; 6]) -> u8
-    ensures { λ r. ⌜ r ≡ headRefusal (now (buffer .entry)) ⌝ }
-    ensures { λ _. ⌜ now (lpsys .exit) ≡ unlessRefused (now (buffer .entry)) (lpsysOf (headOf (now (buffer .entry)))) (now (lpsys .entry)) ⌝ }
-{
-    let decoded = head::decode(buffer);
-    if decoded.refusal != 0 {
-        return decoded.refusal;
+    if select == 2 {
+        return get_clk_dll2_freq(h);
     }
-    let head = decoded.head;
-    *lpsys = lpsys_numbers(head);
-    0
+    Reading::At(clock::CLK_HXT48_FREQ)
+}
+
+pub fn get_clk_mpi1_freq(h: Head) -> Reading
+    requires { ⌜ Encodable h ⌝ }
+    ensures { λ r. ⌜ r ≡ flashOf (byteB (reg h 5)) h ⌝ }
+{
+    flash_freq(head::b(h.regs[5]), h)
+}
+
+pub fn get_clk_mpi2_freq(h: Head) -> Reading
+    requires { ⌜ Encodable h ⌝ }
+    ensures { λ r. ⌜ r ≡ flashOf (byteC (reg h 5)) h ⌝ }
+{
+    flash_freq(head::c(h.regs[5]), h)
 }

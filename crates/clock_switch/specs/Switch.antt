@@ -1,39 +1,16 @@
--- The core clock set as a plan has it: rcc/clock_config.rs. Assumes nothing.
+-- The core clock set as a plan has it, between the halves of a supply transition: rcc/clock_config.rs. Assumes nothing.
 use Prim.Native.Nat.{ℕ}
-use mathlib.Core.Bool.{cond}
 use mathlib.Core.List.{List}
-use lib.Dec.{eqb}
 use Rattle.time.specs.Frequency.{megahertz, hzOr}
-use Rattle.clock.specs.declared.MaybeDll.{MaybeDll}
-use Rattle.clock.specs.declared.MaybeDll.the-variants.{Absent, Present}
 use Rattle.plan.specs.declared.Plan.{Plan}
 use Rattle.plan_clocks.specs.Clocks.{hclkHz}
-use Rattle.register.specs.Word.{wordOf}
-use Rattle.head.specs.Head.{bit}
-use Rattle.clock_read.specs.Hpsys.{reg, hclkOf}
-use Rattle.journal.specs.Run.{Effect, idle, halted, _▸_, store}
-use Rattle.dll.specs.Dll.{configureDll}
+use Rattle.clock_read.specs.Hpsys.{hclkOf}
+use Rattle.journal.specs.Run.{Effect, halted, _▸_}
 use Rattle.dvfs.specs.declared.hpsys.HpsysModeFound.{HpsysModeFound}
 use Rattle.dvfs.specs.declared.hpsys.HpsysModeFound.the-variants.{Mode, OutOfRange}
 use Rattle.dvfs.specs.Hpsys.{modeOf}
-use Rattle.dvfs_switch.specs.HpsysSwitch.{hpsysFirst, hpsysSecond}
-
--- `switch_away_from_dll1`: a core on DLL1 (3) goes to HXT48 (1) where that is ready, else to HRC48 (0)
-unfoldable pub switchAway : Effect
-switchAway r = cond (eqb (reg (r .head) 1) 3) (store 1 (bit (r .head .«hxt48_ready»))) idle r
-
--- `configure_dll1` where the plan has DLL1
-abbrev pub plannedDll1 : MaybeDll → List ℕ → Effect
-plannedDll1 Absent a = idle
-plannedDll1 (Present d) a = configureDll 3 d a
-
--- the plan's dividers
-unfoldable pub dividers : Plan → Effect
-dividers p = store 2 (wordOf (p .hdiv) (p .pdiv1) (p .pdiv2))
-
--- `apply_dividers_and_sysclk`
-unfoldable pub dividersAndSysclk : Plan → Effect
-dividersAndSysclk p = dividers p ▸ store 1 (p .sys)
+use Rattle.dvfs_hpsys.specs.HpsysModes.{hpsysFirst, hpsysSecond}
+use Rattle.core_clock.specs.CoreClock.{switchAway, plannedDll1, dividersAndSysclk}
 
 -- the closure that `init` and `reconfigure_sysclk` pass to `config_hcpu_dvfs`
 unfoldable pub configClock : Plan → List ℕ → Effect

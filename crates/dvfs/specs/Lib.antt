@@ -1,3 +1,2 @@
 pub mod Hpsys
 pub mod Lpsys
-pub mod LpsysSwitch

@@ -9,6 +9,4 @@ pub use hpsys::is_hpsys_dvfs_mode_s;
 pub use lpsys::LpsysDvfsConfig;
 pub use lpsys::LpsysDvfsMode;
 pub use lpsys::LpsysModeFound;
-pub use lpsys::config_lpsys_dvfs_first;
-pub use lpsys::config_lpsys_dvfs_second;
 pub use lpsys::is_lpsys_dvfs_mode_s;

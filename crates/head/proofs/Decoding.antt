@@ -10,7 +10,6 @@ use lib.Seq.{getD-take, getD-drop, take-add, drop-at, length-take-le, drop-drop}
 use Rattle.record.proofs.Bytes.{within-at}
 use Rattle.task.specs.declared.Task.{Task}
 use Rattle.register.specs.Word.{wordIn, wordBytes}
-use Rattle.task_bytes.specs.Four.{fourIn}
 use Rattle.record.specs.Bytes.{Bytes}
 use Rattle.record.specs.Items.{items, joined}
 use Rattle.task.specs.Task.{noTask, InBytes}
@@ -22,30 +21,14 @@ use Rattle.head.specs.Encodable.{Encodable}
 use Rattle.record.proofs.Items.{items-length, items-at, of-items, joined-at}
 use Rattle.record.proofs.Parts.{within-part}
 use Rattle.register.proofs.Words.{bytes-of-word, word-length}
-use Rattle.task_bytes.proofs.Bytes.{bytes-of-task}
+use Rattle.task_bytes.proofs.Bytes.{bytes-of-task, bytes-drop, task-in-bytes}
 use Rattle.register.proofs.Fits.{codes-fit, zero-fits}
 use Rattle.head.proofs.Passed.{Passed, passed}
 use Rattle.task_bytes.proofs.Places.{tasks-length, places-booked}
 
-bytes-drop : (b : List ℕ) (n : ℕ) → Bytes b → Bytes (drop n b)
-bytes-drop b n bytes i = rw getD-drop (bytes (n + i))
-
 word-in-24 : (b : List ℕ) → Bytes b → wordIn b < 16777216
 unfolding wordIn
 word-in-24 b bytes = omega (arith, bytes 0, bytes 1, bytes 2)
-
-four-in-32 : (b : List ℕ) → Bytes b → fourIn b < 4294967296
-unfolding fourIn
-four-in-32 b bytes = omega (arith, bytes 0, bytes 1, bytes 2, bytes 3)
-
-task-in-bytes : (b : List ℕ) → Bytes b → InBytes (taskIn b)
-unfolding taskIn
-task-in-bytes b bytes =
-    record {
-      id = bytes 0;
-      cycles = four-in-32 (drop 1 b) (bytes-drop b 1 bytes);
-      period = four-in-32 (drop 5 b) (bytes-drop b 5 bytes);
-    }
 
 module _ (b : List ℕ) (p : Passed b) (bytes : Bytes b) where
   -- the registers' bytes are those of the words read

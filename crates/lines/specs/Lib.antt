@@ -1,4 +1,1 @@
-pub mod Decimal
-pub mod Hex
 pub mod Reader
-pub mod Text

@@ -1,8 +1,8 @@
 -- Where a reader of lines stands in its buffers. Assumes nothing.
 use Prim.Native.Nat.{ℕ, _≤_}
-use Rattle.lines.specs.declared.reader.Reader.{Reader}
-use Rattle.lines.specs.declared.reader.Line.{Line}
-use Rattle.lines.specs.declared.reader.Line.the-variants.{Whole, End, Broken}
+use Rattle.lines.specs.declared.Reader.{Reader}
+use Rattle.lines.specs.declared.Line.{Line}
+use Rattle.lines.specs.declared.Line.the-variants.{Whole, End, Broken}
 
 -- the bytes that are still to be taken lie within a block of this length
 abbrev pub Within : Reader → ℕ → Type 0

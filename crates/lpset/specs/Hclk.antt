@@ -5,7 +5,7 @@ use mathlib.Core.List.{List}
 use lib.Dec.{eqb}
 use Rattle.time.specs.Frequency.{maybe}
 use Rattle.head.specs.Head.{headRefusal, headOf}
-use Rattle.clock_read.specs.Lpsys.{lpsysHclkOf}
+use Rattle.lpsys_read.specs.Lpsys.{lpsysHclkOf}
 
 -- "LPSYS HCLK in Hz", 0 where none reads or the head is refused
 unfoldable pub hclkIn : List ℕ → ℕ

@@ -14,7 +14,7 @@ fn lpsys_hclk(buffer: &[u8]) -> MaybeHertz
     ensures { λ r. ⌜ r .0 ≡ hclkIn (now (buffer .entry)) ⌝ }
 {
     let mut lpsys = [0u32; 6];
-    clock_read::read_lpsys(buffer, &mut lpsys);
+    head_clocks::read_lpsys(buffer, &mut lpsys);
     MaybeHertz(lpsys[1])
 }
 

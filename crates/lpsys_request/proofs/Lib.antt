@@ -1,2 +1,2 @@
-pub mod Divider
+pub mod Fits
 pub mod Safe

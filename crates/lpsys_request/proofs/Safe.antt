@@ -1,33 +1,34 @@
 -- From a head on which LPSYS keeps its limit and its source reads, every moment of an LPSYS request keeps it. Assumes nothing.
-use Prim.Native.Nat.{ℕ, _+_, _*_, _/_, _%_, _≤_, _<_}
-use mathlib.Core.Path.{_≡_, refl, ap, sym, _∙_, subst}
+use Prim.Native.Nat.{ℕ, _/_, _≤_, _<_}
+use mathlib.Core.Path.{_≡_, refl, ap, sym, _∙_}
 use mathlib.Core.Bool.{Bool, true, false, cond}
 use mathlib.Core.List.{List}
 use native.Mathlib.Omega.{arith}
-use native.Mathlib.Nat.{div-le-of-le-mul, le-div-iff-mul-le}
+use native.Mathlib.Nat.{div-le-of-le-mul}
 use native.Mathlib.Decide.{decLe}
-use Rattle.dvfs.specs.LpsysSwitch.{lpsysD2sFirst, lpsysS2dFirst, lpsysS2dSecond}
-use lib.Dec.{eqb, leb}
+use Rattle.dvfs_lpsys.specs.LpsysSwitch.{lpsysD2sFirst, lpsysS2dFirst, lpsysS2dSecond}
+use lib.Dec.{eqb}
 use lib.ListN.{length, getD, set, length-set}
 use lib.Seq.{getD-set-same, getD-set-other}
-use borrow.Author.Tests.{eqb-true, eqb-false, leb-true, leb-false, le-leb, lt-leb}
+use borrow.Author.Tests.{eqb-true, le-leb}
 use Rattle.time.specs.declared.Reading.{Reading}
 use Rattle.time.specs.declared.Reading.the-variants.{At, Unreadable}
-use Rattle.time.specs.Frequency.{megahertz}
 use Rattle.clock.specs.Clock.{divided}
 use Rattle.head.specs.declared.Head.{Head}
 use Rattle.register.specs.Word.{wordOf, byteA, byteB, byteC}
 use Rattle.head.specs.Encodable.{Encodable}
-use Rattle.clock_read.specs.Hpsys.{reg, hertz, dividedReading, hclkOf}
-use Rattle.clock_read.specs.Lpsys.{lpsysSysOf, lpsysHclkOf}
-use Rattle.journal.specs.Run.{Run, Effect, begin, going, store, delayed, delay}
+use Rattle.clock_read.specs.Hpsys.{reg, hertz, hclkOf}
+use Rattle.lpsys_read.specs.Lpsys.{lpsysSysOf, lpsysHclkOf}
+use Rattle.journal.specs.Run.{Run, begin, going, store, delayed, delay}
 use Rattle.journal.proofs.Moments.{Moments, moments-begin, moments-now, moments-store, moments-delay}
 use Rattle.dvfs.specs.declared.lpsys.LpsysDvfsMode.{LpsysDvfsMode}
 use Rattle.dvfs.specs.declared.lpsys.LpsysDvfsMode.the-variants.{D, S}
 use Rattle.dvfs.specs.Lpsys.{lpsysModeOf}
-use Rattle.lpsys_request.specs.Request.{modeOr, setHdiv, dividerFor, presentMode, requestMode, request}
+use Rattle.lpsys_modes.specs.Modes.{dividerFor, presentMode}
+use Rattle.lpsys_modes.proofs.Divider.{divider-slow, divider-small}
+use Rattle.lpsys_modes.proofs.Modes.{request-d, request-s}
+use Rattle.lpsys_request.specs.Request.{setHdiv, request}
 use Rattle.lpsys_request.specs.Safe.{lpsysHz, LpsysSafe}
-use Rattle.lpsys_request.proofs.Divider.{source-48, divider-most}
 
 -- what is kept: the limit, and the number of registers
 pub record Kept (regs : List ℕ) : Type 0 where
@@ -80,28 +81,6 @@ faster regs w l s = record {
   words = length-set regs 26 w ∙ l;
   safe = record { limit = λ z. absurd (s (sym (getD-set-other regs 26 28 w 0 (λ e. omega arith)) ∙ z)) };
 }
-
--- the modes by their frequencies
-request-d : (f : ℕ) → f ≤ 24 → requestMode f ≡ D
-unfolding requestMode lpsysModeOf
-request-d f h = rw (le-leb f 24 h)
-
-request-s : (f : ℕ) → 24 < f → f ≤ 48 → requestMode f ≡ S
-unfolding requestMode lpsysModeOf
-request-s f h k = rw (lt-leb f 24 h, le-leb f 48 k)
-
--- a request of at most 24 MHz gets a divider of 2 or more, and none is above 48
-divider-slow : (f : ℕ) (h : Head) → 1 ≤ f → f ≤ 24 → 2 ≤ dividerFor f h
-unfolding dividerFor
-divider-slow f h p q = rw (source-48 h, lt-leb 48000000 (f * 1000000) (omega arith)) (le-div-iff-mul-le {k = f * 1000000} {x = 2} {y = 48000000} (omega arith) .1 (omega arith))
-
-divider-small : (f : ℕ) (h : Head) → 1 ≤ f → dividerFor f h ≤ 48
-unfolding dividerFor
-divider-small f h p = rw (source-48 h) (by (leb 48000000 (f * 1000000)))
-  where
-    by : (t : Bool) → cond t 0 (48000000 / (f * 1000000)) ≤ 48
-    by true = omega arith
-    by false = divider-most f p
 
 -- LPSYS above 24 MHz is on supply S
 present-d : (h : Head) → lpsysSysOf h ≡ hertz 48000000 → lpsysHz (h .regs) ≤ 24000000 → presentMode h ≡ D

@@ -1,10 +1,10 @@
--- Waking the LPSYS core and its crystal, rcc/clock_lpsys.rs, as effects on a running call. Assumes nothing.
+-- Waking the LPSYS core, rcc/clock_lpsys.rs, as effects on a running call. Assumes nothing.
 use Prim.Native.Nat.{ℕ, _+_, _%_}
 use mathlib.Core.Bool.{cond}
 use mathlib.Core.List.{List}
 use lib.Dec.{eqb}
 use Rattle.head.specs.declared.Head.{Head}
-use Rattle.journal.specs.Run.{Run, Effect, idle, _▸_, going, headed, store, delay, wait, waitHxt48, waitLpsysHxt48}
+use Rattle.journal.specs.Run.{Run, Effect, idle, _▸_, going, headed, store, delay, wait}
 
 -- another wake count
 abbrev pub counted : ℕ → Head → Head
@@ -36,13 +36,3 @@ wake a = wakeFirst a ▸ delay 30 ▸ wait 6 a ▸ countUp
 -- `cancel_lcpu_active_request`: the request is cleared where the count was 1
 unfoldable pub cancel : Effect
 cancel r = (countDown ▸ cond (eqb (r .head .«wake_count») 1) (store 33 0) idle) r
-
--- `ensure_hxt48_ready`: each domain's crystal is requested and waited for where its flag is 0
-unfoldable pub requestHxt48 : List ℕ → Effect
-requestHxt48 a r = cond (r .head .«hxt48_ready») idle (store 22 1 ▸ waitHxt48 a) r
-
-unfoldable pub requestLpsysHxt48 : List ℕ → Effect
-requestLpsysHxt48 a r = cond (r .head .«lpsys_hxt48_ready») idle (store 32 1 ▸ waitLpsysHxt48 a) r
-
-unfoldable pub hxt48Ready : List ℕ → Effect
-hxt48Ready a = requestHxt48 a ▸ requestLpsysHxt48 a

@@ -6,7 +6,8 @@ use lib.ListN.{length}
 use Rattle.call.specs.declared.Answer.{Answer}
 use Rattle.call.specs.Call.{Answers}
 use Rattle.call.proofs.Entries.{performed-within}
-use Rattle.lpsys_setters.specs.Setters.{setLpsysHdiv, setLpsysDiv, configMac, select}
+use Rattle.lpsys_dividers.specs.Dividers.{setLpsysHdiv, setLpsysDiv, configMac}
+use Rattle.lpsys_selects.specs.Selects.{select}
 use Rattle.clock_lpsys.specs.Calls.{lpsysRequest, safeFrequency, wakeLcpu, cancelLcpu, ensureHxt48}
 use Rattle.named.specs.declared.Call.{Call}
 use Rattle.named.specs.declared.Call.the-variants.{Request, Safe, Wake, Cancel, Hxt48, Hdiv, Div, Mac, Sysclk, Peri}

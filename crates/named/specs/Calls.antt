@@ -5,7 +5,8 @@ use mathlib.Core.Bool.{true, false}
 use mathlib.Core.List.{List, [], _∷_}
 use lib.ListN.{getD}
 use Rattle.call.specs.Call.{Result}
-use Rattle.lpsys_setters.specs.Setters.{setLpsysHdiv, setLpsysDiv, configMac, selectSysclk, selectPeri}
+use Rattle.lpsys_dividers.specs.Dividers.{setLpsysHdiv, setLpsysDiv, configMac}
+use Rattle.lpsys_selects.specs.Selects.{selectSysclk, selectPeri}
 use Rattle.clock_lpsys.specs.Calls.{lpsysRequest, safeFrequency, wakeLcpu, cancelLcpu, ensureHxt48}
 use Rattle.named.specs.declared.Call.{Call}
 use Rattle.named.specs.declared.Call.the-variants.{Request, Safe, Wake, Cancel, Hxt48, Hdiv, Div, Mac, Sysclk, Peri}

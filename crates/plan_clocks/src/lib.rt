@@ -1,7 +1,7 @@
 // The clocks that a plan gives: rcc/clock_config.rs, `get_sysclk_freq_hz`, `get_hclk_freq_hz` and the sums in `check`.
 ghost use mathlib.Core.Path.{_≡_};
 ghost use Prim.Native.Nat.{_≤_};
-ghost use Rattle.plan.specs.Plan.{stageOf};
+ghost use Rattle.plan_code.specs.Code.{stageOf};
 ghost use Rattle.plan_clocks.specs.Clocks.{maybeHz, maybeWholeHz, sysHz, hclkHz, pclk1Hz, pclk2Hz, usbHz, usbDivider, targetOf};
 use clock::MaybeDll;
 use plan::Plan;

@@ -1,7 +1,7 @@
 // Tests 9 to 14 of `ConfigBuilder::check`: a frequency outside its limits. One function each.
 ghost use mathlib.Core.Path.{_≡_};
 ghost use Prim.Native.Nat.{_≤_};
-ghost use Rattle.plan.specs.Plan.{stageOf};
+ghost use Rattle.plan_code.specs.Code.{stageOf};
 ghost use Rattle.plan_limits.specs.Limits.{isFast, usbNot60, dll1CoreTooSlow, hclkTooFast, pclk1TooFast, pclk2TooFast, dll2TooFast};
 use plan::Plan;
 

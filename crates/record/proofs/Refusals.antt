@@ -1,7 +1,7 @@
 -- Laws of `firstOf`. Assumes nothing.
 use Prim.Native.Nat.{ℕ, zero, suc}
 use mathlib.Core.Path.{_≡_, refl, sym, _∙_}
-use mathlib.Core.Bool.{Bool, true, false, cond}
+use mathlib.Core.Bool.{Bool, true, false, cond, not}
 use mathlib.Core.List.{List, [], _∷_, _++_}
 use native.Mathlib.Omega.{arith}
 use lib.Dec.{eqb}
@@ -38,6 +38,10 @@ none-at (n ∷ ns) e (suc k) = none-at ns (none-rest n (firstOf ns) (eqb n 0) re
 pub not-refused : (n : ℕ) (b : Bool) → refuse (suc n) b ≡ 0 → b ≡ false
 not-refused n true e = absurd (omega arith)
 not-refused n false e = refl
+
+pub not-refused-unless : (n : ℕ) (b : Bool) → refuse (suc n) (not b) ≡ 0 → b ≡ true
+not-refused-unless n true e = refl
+not-refused-unless n false e = absurd (omega arith)
 
 -- the last test of a list gives its own answer
 pub only-test : (n : ℕ) → firstOf (n ∷ []) ≡ n

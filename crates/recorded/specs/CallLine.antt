@@ -4,7 +4,7 @@ use mathlib.Core.Path.{_≡_}
 use mathlib.Core.Bool.{Bool}
 use mathlib.Core.List.{List, _++_}
 use lib.ListN.{take, replicate}
-use Rattle.lines.specs.Decimal.{numbersOf}
+use Rattle.text.specs.Decimal.{numbersOf}
 use Rattle.answered.specs.Left.{unused, joined, bytes, answersText, resultText}
 use Rattle.named.specs.declared.Call.{Call}
 use Rattle.named.specs.Calls.{nameOf, formOf, resultOf}

@@ -5,9 +5,8 @@ ghost use lib.ListN.{length};
 ghost use Rattle.answered.specs.Answer.{AnswerWithin};
 use answered::Outcome;
 use answered::answer;
-use lines::hex;
-use lines::hex::Field;
-use lines::text;
+use fields::hex;
+use fields::hex::Field;
 
 // Puts our answer to a head. Where the two readings answer different refusals both are put, which
 // no record has.
@@ -16,8 +15,8 @@ fn put_readings(head: &[u8], text: &mut [u8]) -> usize
 {
     let mut clocks = [0u32; 15];
     let mut lpsys = [0u32; 6];
-    let refusal = clock_read::read_clocks(head, &mut clocks);
-    let refusal_lpsys = clock_read::read_lpsys(head, &mut lpsys);
+    let refusal = head_clocks::read_clocks(head, &mut clocks);
+    let refusal_lpsys = head_clocks::read_lpsys(head, &mut lpsys);
     let after = text::put_number(refusal as u64, text, 0);
     if refusal_lpsys != refusal {
         return text::put_after_blank(refusal_lpsys as u64, text, after);

@@ -5,9 +5,8 @@ ghost use Rattle.verdict.specs.Verdict.{numberOf};
 ghost use Rattle.answered.specs.Answer.{AnswerWithin};
 use answered::Outcome;
 use answered::answer;
-use lines::hex;
-use lines::hex::Field;
-use lines::text;
+use fields::hex;
+use fields::hex::Field;
 use verdict::Verdict;
 
 fn number(verdict: Verdict) -> u64

@@ -5,18 +5,17 @@
 ghost use Prim.Native.Nat.{_≤_};
 ghost use mathlib.Core.Path.{_≡_};
 ghost use lib.ListN.{length};
-ghost use Rattle.lines.specs.Text.{Puts};
+ghost use Rattle.text.specs.Text.{Puts};
 ghost use Rattle.answered.specs.Answer.{AnswerWithin};
 ghost use Rattle.answered.specs.Left.{joined, answersText};
-ghost use Rattle.recorded_config.specs.ConfigLine.{nameOf, clocksText, givenText, lineOf, Recorded};
-use crate::calls;
-use crate::calls::Call;
-use crate::calls::Named;
+ghost use Rattle.named_config.specs.Calls.{nameOf};
+ghost use Rattle.recorded_config.specs.ConfigLine.{clocksText, givenText, lineOf, Recorded};
 use answered::Outcome;
 use answered::left;
-use lines::hex;
-use lines::hex::Field;
-use lines::text;
+use fields::hex;
+use fields::hex::Field;
+use named_config::Call;
+use named_config::Named;
 
 fn put_plan(lent: bool, plan: &[u8], text: &mut [u8], at: usize) -> usize
     requires { ⌜ at ≤ length (now text) ⌝ }
@@ -212,7 +211,7 @@ pub fn config_line(line: &[u8], text: &mut [u8]) -> Outcome
     ensures { λ r. ⌜ (r ≡ Outcome.Same → Recorded (now (line .entry))) ⌝ }
 {
     let end = hex::end_of(line, 0);
-    match calls::find(&line[..end]) {
+    match named_config::find(&line[..end]) {
         Named::Unknown => Outcome::Malformed,
         Named::Call(call) => plan_line(call, &line[..end], line, end, text),
     }

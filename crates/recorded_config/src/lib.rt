@@ -1,6 +1,5 @@
 // Lines that record an answer of the original rcc/clock_config.rs. Our answer to the same is compared
 // with the recorded one.
-mod calls;
 mod config_lines;
 
 pub use config_lines::config_line;

@@ -3,8 +3,8 @@ use crate::kind::Kind;
 use crate::report;
 use crate::tally::Tally;
 use answered::Outcome;
-use lines::reader::Line;
-use lines::reader::Reader;
+use lines::Line;
+use lines::Reader;
 
 // How many of the differing lines are shown.
 const SHOWN: u64 = 10;

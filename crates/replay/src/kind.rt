@@ -9,6 +9,7 @@ pub enum Kind {
     Heads,
     Lpsys,
     Config,
+    Tasks,
 }
 
 impl Kind {
@@ -27,6 +28,9 @@ impl Kind {
             Kind::Config => {
                 io::write_all(STDOUT_FILENO, b"config: ");
             }
+            Kind::Tasks => {
+                io::write_all(STDOUT_FILENO, b"tasks: ");
+            }
         }
     }
 
@@ -39,6 +43,7 @@ impl Kind {
             Kind::Heads => recorded::head_line(line, text),
             Kind::Lpsys => recorded::call_line(line, text),
             Kind::Config => recorded_config::config_line(line, text),
+            Kind::Tasks => recorded_tasks::task_line(line, text),
         }
     }
 }

@@ -1,6 +1,7 @@
-// Replays the recorded answers of the original Rust. Each file of records has a line for each call:
-// what it was given and what it answered (crates `recorded` and `recorded_config`). Our answer to the
-// same is compared with the recorded one, and of each file the program says how many lines differ.
+// Replays recorded answers: those of the original Rust and, of load check, booking and release, those
+// of document 01. Each file of records has a line for each call: what it was given and what it
+// answered (crates `recorded`, `recorded_config` and `recorded_tasks`). Our answer to the same is
+// compared with the recorded one, and of each file the program says how many lines differ.
 mod files;
 mod kind;
 mod report;
@@ -13,4 +14,5 @@ fn main() {
     files::replay(Kind::Heads, b"heads.txt");
     files::replay(Kind::Lpsys, b"lpsys.txt");
     files::replay(Kind::Config, b"config.txt");
+    files::replay(Kind::Tasks, b"tasks.txt");
 }

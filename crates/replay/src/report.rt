@@ -2,7 +2,7 @@
 use crate::kind::Kind;
 use crate::tally::Tally;
 use libc::STDOUT_FILENO;
-use lines::reader::Fault;
+use lines::Fault;
 
 fn say(text: &[u8]) {
     io::write_all(STDOUT_FILENO, text);

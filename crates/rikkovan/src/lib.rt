@@ -1,24 +1,20 @@
 // What C calls, as include/rikkovan.h declares it.
 mod config;
 mod lpsys;
-mod word;
+mod tasks;
 
 ghost use mathlib.Core.Path.{_≡_};
 ghost use Rattle.head.specs.Head.{headRefusal, headOf};
-ghost use Rattle.clock_read.specs.Clocks.{clocksOf, lpsysOf, unlessRefused};
+ghost use Rattle.head_clocks.specs.Clocks.{clocksOf, lpsysOf, unlessRefused};
 ghost use Rattle.verdict.specs.Verdict.{verdict, numberOf};
-ghost use Rattle.rikkovan.specs.Word.{packed};
-use verdict::Verdict;
+ghost use Rattle.answer_word.specs.Word.{packed};
 
 // 0 for an accepted plan, else its refusal number.
 #[no_mangle]
 pub extern "C" fn rikkovan_plan_check(bytes: &[u8]) -> u64
     ensures { λ r. ⌜ r ≡ numberOf (verdict (now (bytes .entry))) ⌝ }
 {
-    match verdict::check(bytes) {
-        Verdict::Accepted(_) => 0,
-        Verdict::Refused(refusal) => refusal as u64,
-    }
+    answer_word::of_verdict(verdict::check(bytes))
 }
 
 // The 15 frequencies of a head, 0 for none; on a refusal `clocks` stays.
@@ -27,7 +23,7 @@ pub extern "C" fn rikkovan_read_clocks(head: &[u8], clocks: &mut [u32; 15]) -> u
     ensures { λ r. ⌜ r ≡ packed (headRefusal (now (head .entry))) 0 0 0 ⌝ }
     ensures { λ _. ⌜ now (clocks .exit) ≡ unlessRefused (now (head .entry)) (clocksOf (headOf (now (head .entry)))) (now (clocks .entry)) ⌝ }
 {
-    word::pack(clock_read::read_clocks(head, clocks), 0, 0, 0)
+    answer_word::pack(head_clocks::read_clocks(head, clocks), 0, 0, 0)
 }
 
 // The six frequencies of LPSYS, 0 for none; on a refusal `lpsys` stays.
@@ -36,5 +32,5 @@ pub extern "C" fn rikkovan_read_lpsys(head: &[u8], lpsys: &mut [u32; 6]) -> u64
     ensures { λ r. ⌜ r ≡ packed (headRefusal (now (head .entry))) 0 0 0 ⌝ }
     ensures { λ _. ⌜ now (lpsys .exit) ≡ unlessRefused (now (head .entry)) (lpsysOf (headOf (now (head .entry)))) (now (lpsys .entry)) ⌝ }
 {
-    word::pack(clock_read::read_lpsys(head, lpsys), 0, 0, 0)
+    answer_word::pack(head_clocks::read_lpsys(head, lpsys), 0, 0, 0)
 }

@@ -89,3 +89,20 @@ task-laid at t b h =
       laid-next at id (fourBytes (t .cycles)) b (omega arith),
       laid-next at (id ++ fourBytes (t .cycles)) (fourBytes (t .period)) b (omega arith),
     )
+
+-- a task that is read from bytes fits its bytes
+pub bytes-drop : (b : List ℕ) (n : ℕ) → Bytes b → Bytes (drop n b)
+bytes-drop b n bytes i = rw getD-drop (bytes (n + i))
+
+four-in-32 : (b : List ℕ) → Bytes b → fourIn b < 4294967296
+unfolding fourIn
+four-in-32 b bytes = omega (arith, bytes 0, bytes 1, bytes 2, bytes 3)
+
+pub task-in-bytes : (b : List ℕ) → Bytes b → InBytes (taskIn b)
+unfolding taskIn
+task-in-bytes b bytes =
+    record {
+      id = bytes 0;
+      cycles = four-in-32 (drop 1 b) (bytes-drop b 1 bytes);
+      period = four-in-32 (drop 5 b) (bytes-drop b 5 bytes);
+    }

@@ -30,6 +30,9 @@ tasksIn b = items taskIn 9 (countIn b) (drop firstTask b)
 unfoldable pub tasksFit : List ℕ → Bool
 tasksFit b = allOk (tasksIn b) && distinct (tasksIn b)
 
--- sixteen places, those past the booked tasks empty
+-- sixteen places with `n` tasks at the front, the others empty
+abbrev pub placed : List Task → ℕ → List Task
+placed ts n = ts ++ replicate (16 - n) noTask
+
 unfoldable pub placesIn : List ℕ → List Task
-placesIn b = tasksIn b ++ replicate (16 - countIn b) noTask
+placesIn b = placed (tasksIn b) (countIn b)

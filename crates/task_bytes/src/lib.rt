@@ -1,11 +1,11 @@
 // The booked tasks of a head record: their bytes and their places.
 ghost use mathlib.Core.Path.{_≡_};
-ghost use Prim.Native.Nat.{_+_, _≤_};
+ghost use Prim.Native.Nat.{_+_, _*_, _≤_};
 ghost use lib.ListN.{length, take, drop};
 ghost use Rattle.register.specs.Registers.{bufferBytes};
-ghost use Rattle.record.specs.Items.{joined, laid};
+ghost use Rattle.record.specs.Items.{items, joined, laid};
 ghost use Rattle.task_bytes.specs.Four.{fourOf, fourBytes};
-ghost use Rattle.task_bytes.specs.Tasks.{taskIn, taskBytes, firstTask, countIn, placesIn, tasksFit};
+ghost use Rattle.task_bytes.specs.Tasks.{taskIn, taskBytes, firstTask, countIn, placed, placesIn, tasksFit};
 use task::Task;
 
 const FIRST_TASK: usize = 111;
@@ -40,10 +40,10 @@ pub fn task_at(buffer: &[u8], at: usize) -> Task
     }
 }
 
-// The sixteen places, those past the booked tasks empty.
-pub fn read(buffer: &[u8]) -> [Task; 16]
-    requires { ⌜ (length (now buffer) ≡ bufferBytes) × (countIn (now buffer) ≤ 16) ⌝ }
-    ensures { λ r. ⌜ r ≡ placesIn (now (buffer .entry)) ⌝ }
+// Sixteen places, the first `count` with the tasks from a place of the bytes on, the others empty.
+pub fn tasks_at(bytes: &[u8], at: usize, count: usize) -> [Task; 16]
+    requires { ⌜ (at + 9 * count ≤ length (now bytes)) × (count ≤ 16) ⌝ }
+    ensures { λ r. ⌜ r ≡ placed (items taskIn 9 count (drop at (now (bytes .entry)))) count ⌝ }
 {
     let none = Task {
         id: 0,
@@ -51,13 +51,20 @@ pub fn read(buffer: &[u8]) -> [Task; 16]
         period: 0,
     };
     let mut tasks = [none; 16];
-    let end = buffer[110] as usize;
     let mut i = 0;
-    while i < end {
-        tasks[i] = task_at(buffer, FIRST_TASK + 9 * i);
+    while i < count {
+        tasks[i] = task_at(bytes, at + 9 * i);
         i += 1;
     }
     tasks
+}
+
+// The sixteen places of a record, those past the booked tasks empty.
+pub fn read(buffer: &[u8]) -> [Task; 16]
+    requires { ⌜ (length (now buffer) ≡ bufferBytes) × (countIn (now buffer) ≤ 16) ⌝ }
+    ensures { λ r. ⌜ r ≡ placesIn (now (buffer .entry)) ⌝ }
+{
+    tasks_at(buffer, FIRST_TASK, buffer[110] as usize)
 }
 
 // Whether a record's tasks are such that neither 16 nor 40 would refuse one.

@@ -11,7 +11,7 @@ use Rattle.clock.specs.declared.MaybeDll.{MaybeDll}
 use Rattle.clock.specs.declared.MaybeDll.the-variants.{Absent, Present}
 use Rattle.clock.proofs.Laws.{dll-least, dll-most}
 use Rattle.plan.specs.declared.Plan.{Plan}
-use Rattle.plan.specs.Plan.{stageOf}
+use Rattle.plan_code.specs.Code.{stageOf}
 use Rattle.plan_clocks.specs.Clocks.{maybeHz, sysHz, usbHz, usbDivider}
 use Rattle.plan_sources.specs.Sources.{isAbsent, coreOnAbsentDll1, usbOnAbsentDll2}
 use Rattle.plan_limits.specs.Limits.{usbNot60}

@@ -3,7 +3,7 @@ ghost use mathlib.Core.Path.{_≡_};
 ghost use Prim.Native.Nat.{_≤_};
 ghost use lib.ListN.{drop};
 ghost use Rattle.record.specs.Refusals.{firstOf};
-ghost use Rattle.plan.specs.Plan.{stageOf};
+ghost use Rattle.plan_code.specs.Code.{stageOf};
 ghost use Rattle.verdict.specs.Verdict.{planTests, planRefusal};
 use plan::Plan;
 

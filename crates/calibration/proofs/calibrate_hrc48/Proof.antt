@@ -1,17 +1,13 @@
 -- `calibration::calibrate_hrc48` meets its contract: the flag picks the case. Assumes nothing.
 use native.Mathlib.Omega.{arith}
-use Rattle.journal.proofs.Ended.{ran-still}
-use Rattle.calibration.proofs.Laws.{still-calibrate}
-use Rattle.calibration.proofs.Turns.{ran-ready, ran-unready}
+use mathlib.Core.Bool.{cond}
+use Rattle.head.specs.declared.Head.{Head}
+use Rattle.journal.specs.Run.{halted}
+use Rattle.journal.proofs.Steps.{of-head, kept-within}
+use Rattle.calibration.specs.Calibration.{calibrate, calibrateHrc48}
 use borrow.Author.Needs.{needs}
 use Rattle.calibration.proofs.calibrate_hrc48.Statement.{statement}
 use Rattle.calibration.proofs.calibrate_hrc48.Tie as tie
-
-returns : tie.Need-returns
-returns c = (
-  ran-still (still-calibrate _) (c .before .before .before .args .m) _ (c .if1 .taken),
-  (record { room = omega arith; encodable = c .before .before .before .pre .0 .encodable }, c .before .before .before .pre .1 .0),
-)
 
 calibrate-requires : tie.Need-calibrate-requires
 calibrate-requires c κs = search needs
@@ -19,15 +15,17 @@ calibrate-requires c κs = search needs
 same-length : tie.Need-same-length
 same-length c = search needs
 
-returns-2 : tie.Need-returns-2
-returns-2 c = (ran-ready _ (c .before .before .before .before .before .before .if1 .left) (c .before .before .before .before .if2 .taken) (c .before .before .calibrate .ensures .0), c .before .before .calibrate .ensures .1)
+returns : tie.Need-returns
+unfolding calibrateHrc48
+returns c = of-head (λ (h : Head). cond (h .«hxt48_ready») (calibrate _) (halted 31)) (simp (c .before .before .before .before .if1 .taken) (c .before .before .calibrate .ensures))
 
-returns-3 : tie.Need-returns-3
-returns-3 c = (
-  ran-unready (c .before .before .before .before .before .args .m) _ (c .before .before .before .before .before .args .answers .now) (c .before .before .if1 .left) (c .if2 .left),
-  (record { room = omega arith; encodable = c .before .before .before .before .before .pre .0 .encodable }, c .before .before .before .before .before .pre .1 .0),
-)
+refuse-requires : tie.Need-refuse-requires
+refuse-requires c κs = search needs
+
+returns-2 : tie.Need-returns-2
+unfolding calibrateHrc48
+returns-2 c = of-head (λ (h : Head). cond (h .«hxt48_ready») (calibrate _) (halted 31)) (simp (c .before .if1 .left) (c .refuse .ensures .0 _, (kept-within (omega arith) (c .refuse .ensures .1 .0), omega (arith, c .refuse .ensures .1 .1, c .before .before .before .before .before .pre .1 .0))))
 
 pub calibrate-hrc48-spec : {M : Type 1} → statement M
 calibrate-hrc48-spec =
-    tie.close (tie.spec returns calibrate-requires same-length returns-2 returns-3)
+    tie.close (tie.spec calibrate-requires same-length returns refuse-requires returns-2)

@@ -4,7 +4,7 @@ use mathlib.Core.Path.{_≡_, refl, _∙_}
 use mathlib.Core.List.{_++_}
 use borrow.Author.Tests.{eq-eqb, ne-eqb}
 use lib.ListN.{length, take}
-use Rattle.clock_read.specs.Clocks.{clocksOf}
+use Rattle.head_clocks.specs.Clocks.{clocksOf}
 use Rattle.call_clocks.proofs.Pair.{pair}
 use borrow.Author.Needs.{needs}
 use Rattle.call_clocks.proofs.clocks_beside.Statement.{statement}

@@ -6,7 +6,7 @@ use mathlib.Core.Path.{_≡_, refl, sym, ap, _∙_}
 use Rattle.record.specs.Refusals.{firstOf}
 use Rattle.time.specs.declared.Reading.{Reading}
 use Rattle.time.specs.declared.Reading.the-variants.{At, Unreadable}
-use Rattle.clock_read.specs.Lpsys.{lpsysHclkOf}
+use Rattle.lpsys_read.specs.Lpsys.{lpsysHclkOf}
 use Rattle.call.proofs.Ending.{call-unadmitted, call-refused, call-ran, call-encodable, call-bytes, call-head}
 use Rattle.call.proofs.Admitting.{journal-room, started}
 use Rattle.clock_lpsys.specs.Calls.{safeTests, safeFrequency}

@@ -8,9 +8,9 @@ use lib.ListN.{getD}
 use Rattle.time.specs.Frequency.{maybe}
 use Rattle.head.specs.declared.Head.{Head}
 use Rattle.head.specs.Head.{headRefusal, headOf}
-use Rattle.clock_read.specs.Lpsys.{lpsysHclkOf}
+use Rattle.lpsys_read.specs.Lpsys.{lpsysHclkOf}
 use Rattle.lpset.specs.Hclk.{hclkIn}
-use Rattle.clock_read.specs.Clocks.{lpsysOf}
+use Rattle.head_clocks.specs.Clocks.{lpsysOf}
 use borrow.Author.Needs.{needs}
 use Rattle.lpset.proofs.lpsys_hclk.Statement.{statement}
 use Rattle.lpset.proofs.lpsys_hclk.Tie as tie

@@ -4,8 +4,9 @@ use mathlib.Core.Path.{refl, ap, _∙_}
 use Rattle.journal.specs.declared.Machine.{Machine}
 use Rattle.journal.specs.Run.{Run, _▸_}
 use Rattle.journal.proofs.Reached.{ran-as, ran-then}
-use Rattle.dvfs.specs.LpsysSwitch.{lpsysFirst, lpsysSecond}
-use Rattle.lpsys_request.specs.Request.{setHdiv, dividerFor, presentMode, requestMode, request}
+use Rattle.dvfs_lpsys.specs.LpsysSwitch.{lpsysFirst, lpsysSecond}
+use Rattle.lpsys_modes.specs.Modes.{dividerFor, presentMode, requestMode}
+use Rattle.lpsys_request.specs.Request.{setHdiv, request}
 use borrow.Author.Needs.{needs}
 use Rattle.lpsys_request.proofs.request.Statement.{statement}
 use Rattle.lpsys_request.proofs.request.Tie as tie

@@ -6,7 +6,7 @@ use Rattle.journal.specs.declared.Machine.{Machine}
 use Rattle.journal.specs.Run.{store}
 use Rattle.journal.proofs.Reached.{ran-as}
 use Rattle.lpsys_request.specs.Request.{setHdiv}
-use Rattle.lpsys_request.proofs.Divider.{hdiv-fits}
+use Rattle.lpsys_request.proofs.Fits.{hdiv-fits}
 use borrow.Author.Needs.{needs}
 use Rattle.lpsys_request.proofs.set_hdiv.Statement.{statement}
 use Rattle.lpsys_request.proofs.set_hdiv.Tie as tie

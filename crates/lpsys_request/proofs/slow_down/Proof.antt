@@ -4,7 +4,7 @@ use mathlib.Core.Path.{_≡_, refl, ap, sym, _∙_}
 use mathlib.Core.Bool.{true, false}
 use lib.Dec.{ltb}
 use borrow.Author.Tests.{lt-ltb, le-ltb}
-use Rattle.clock_read.specs.Lpsys.{lpsysHclkOf}
+use Rattle.lpsys_read.specs.Lpsys.{lpsysHclkOf}
 use Rattle.journal.specs.declared.Machine.{Machine}
 use Rattle.journal.specs.Run.{Run}
 use Rattle.journal.specs.Machine.{machineOf}

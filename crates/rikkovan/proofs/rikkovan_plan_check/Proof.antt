@@ -1,4 +1,6 @@
--- `rikkovan::rikkovan_plan_check` meets its contract: each arm is a case of `numberOf`. Assumes nothing.
+-- `rikkovan::rikkovan_plan_check` meets its contract: the number of the verdict. Assumes nothing.
+use mathlib.Core.Path.{ap, _∙_}
+use Rattle.verdict.specs.Verdict.{numberOf}
 use borrow.Author.Needs.{needs}
 use Rattle.rikkovan.proofs.rikkovan_plan_check.Statement.{statement}
 use Rattle.rikkovan.proofs.rikkovan_plan_check.Tie as tie
@@ -6,21 +8,11 @@ use Rattle.rikkovan.proofs.rikkovan_plan_check.Tie as tie
 check-requires : tie.Need-check-requires
 check-requires c κs = search needs
 
-enum-told : tie.Need-enum-told
-enum-told c = search needs
-
-enum-known-refusal : tie.Need-enum-known-refusal
-enum-known-refusal c = search needs
-
-cast-result : tie.Need-cast-result
-cast-result c = search needs
+of-verdict-requires : tie.Need-of-verdict-requires
+of-verdict-requires c κs = search needs
 
 returns : tie.Need-returns
-returns c = simp (← c .before .before .check .ensures, c .enum-told .given .1)
-
-returns-2 : tie.Need-returns-2
-returns-2 c = simp (← c .before .before .before .check .ensures, c .before .refusal .given .1)
+returns c = c .of-verdict .ensures ∙ ap numberOf (c .before .check .ensures)
 
 pub rikkovan-plan-check-spec : {M : Type 1} → statement M
-rikkovan-plan-check-spec =
-    tie.close (tie.spec check-requires enum-told enum-known-refusal cast-result returns returns-2)
+rikkovan-plan-check-spec = tie.close (tie.spec check-requires of-verdict-requires returns)

@@ -1,86 +1,21 @@
--- `task_bytes::read` meets its contract. The loop's invariant: the places passed hold the tasks read, and the others are empty.
--- Assumes nothing.
-use Prim.Native.Nat.{_-_, _≤_}
-use mathlib.Core.Path.{_≡_, refl}
-use mathlib.Core.List.{_++_}
+-- `task_bytes::read` meets its contract: as many tasks as the record counts, from their place on. Assumes nothing.
 use borrow.Author.Needs.{needs}
-use native.Mathlib.Omega.{arith}
-use lib.ListN.{length, drop, replicate}
-use Rattle.record.specs.Items.{items}
-use Rattle.task.specs.Task.{noTask}
-use Rattle.register.specs.Registers.{bufferBytes}
-use Rattle.task_bytes.specs.Tasks.{taskIn, firstTask, countIn, tasksIn, placesIn}
-use Rattle.record.proofs.Items.{fill-items}
+use Rattle.task_bytes.specs.Tasks.{tasksIn, placesIn}
 use Rattle.task_bytes.proofs.read.Statement.{statement}
 use Rattle.task_bytes.proofs.read.Tie as tie
 
-abbrev Inv-loop : tie.InvT-loop
-Inv-loop buffer tasks₀ end i₀ tasks i =
-    (i ≤ end) × ((end ≤ 16) × ((length buffer ≡ bufferBytes) × (tasks ≡ items taskIn 9 i (drop firstTask buffer) ++ replicate (16 - i) noTask)))
+shared-slice-read-tasks-at : tie.Need-shared-slice-read-tasks-at
+shared-slice-read-tasks-at c = search needs
 
-abbrev μ-loop : tie.MeasureT-loop
-μ-loop buffer tasks₀ end i₀ tasks i = end - i
+cast-tasks-at : tie.Need-cast-tasks-at
+cast-tasks-at c = search needs
 
-shared-slice-read-end : tie.Need-shared-slice-read-end Inv-loop μ-loop
-shared-slice-read-end c = search needs
+tasks-at-requires : tie.Need-tasks-at-requires
+tasks-at-requires c κs = search needs
 
-cast-end : tie.Need-cast-end Inv-loop μ-loop
-cast-end c = omega (arith, c .shared-slice-known2 .given 110)
-
-loop-holds : tie.Need-loop-holds Inv-loop μ-loop
-unfolding items
-loop-holds c = (omega arith, (c .before .before .pre .1, (c .before .before .pre .0, refl)))
-
-mul-task-at : tie.Need-mul-task-at Inv-loop μ-loop
-mul-task-at c = search needs
-
-add-task-at : tie.Need-add-task-at Inv-loop μ-loop
-add-task-at c = search needs
-
-task-at-requires : tie.Need-task-at-requires Inv-loop μ-loop
-task-at-requires c κs = search needs
-
-mul-tasks : tie.Need-mul-tasks Inv-loop μ-loop
-mul-tasks c = search needs
-
-array-set-from-tasks : tie.Need-array-set-from-tasks Inv-loop μ-loop
-array-set-from-tasks c = search needs
-
-add-i : tie.Need-add-i Inv-loop μ-loop
-add-i c = search needs
-
-loop-less : tie.Need-loop-less Inv-loop μ-loop
-loop-less c = search needs
-
-loop-again : tie.Need-loop-again Inv-loop μ-loop
-loop-again c =
-    let loop = c .before .before .loop in
-    let b = c .before .before .before .before .before .args .buffer .now in
-    let turn = fill-items taskIn 9 firstTask b 16 (loop .i) noTask (loop .tasks) (omega arith) (loop .inv .1 .1 .1) in
-    (omega arith, (loop .inv .1 .0, (loop .inv .1 .1 .0, rw (c .task-at .ensures) turn)))
-
-returns : tie.Need-returns Inv-loop μ-loop
+returns : tie.Need-returns
 unfolding placesIn tasksIn
-returns c =
-    let loop = c .before .loop in
-    let all : loop .i ≡ countIn (c .before .before .before .before .args .buffer .now) = omega arith in
-    rw all at (loop .inv .1 .1 .1)
+returns c = search needs
 
 pub read-spec : {M : Type 1} → statement M
-read-spec =
-    tie.close
-    (tie.spec
-    Inv-loop
-    μ-loop
-    shared-slice-read-end
-    cast-end
-    loop-holds
-    mul-task-at
-    add-task-at
-    task-at-requires
-    mul-tasks
-    array-set-from-tasks
-    add-i
-    loop-less
-    loop-again
-    returns)
+read-spec = tie.close (tie.spec shared-slice-read-tasks-at cast-tasks-at tasks-at-requires returns)

@@ -1,5 +1,5 @@
 -- `answered::left::put_left` meets its contract: its parts, one after the other. Assumes nothing.
-use Rattle.lines.proofs.Putting.{puts-then}
+use Rattle.text.proofs.Putting.{puts-then}
 use native.Mathlib.Omega.{arith}
 use lib.Seq.{length-take-le}
 use mathlib.Core.Path.{sym}

@@ -1,5 +1,5 @@
 -- `recorded::call_lines::put_given` meets its contract: its parts, one after the other. Assumes nothing.
-use Rattle.lines.proofs.Putting.{puts-none, puts-then}
+use Rattle.text.proofs.Putting.{puts-none, puts-then}
 use native.Mathlib.Omega.{arith}
 use borrow.Author.Needs.{needs}
 use Rattle.recorded.proofs.call_lines.put_given.Statement.{statement}

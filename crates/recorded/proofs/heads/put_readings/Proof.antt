@@ -1,5 +1,5 @@
 -- `recorded::heads::put_readings` meets its contract: each reading leaves as many numbers as the array that it was lent holds. Assumes nothing.
-use Rattle.clock_read.specs.Clocks.{clocksOf, lpsysOf}
+use Rattle.head_clocks.specs.Clocks.{clocksOf, lpsysOf}
 use borrow.Author.Needs.{needs}
 use Rattle.recorded.proofs.heads.put_readings.Statement.{statement}
 use Rattle.recorded.proofs.heads.put_readings.Tie as tie

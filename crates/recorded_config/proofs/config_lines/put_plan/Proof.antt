@@ -1,5 +1,5 @@
 -- `recorded_config::config_lines::put_plan` meets its contract. Assumes nothing.
-use Rattle.lines.proofs.Putting.{puts-none}
+use Rattle.text.proofs.Putting.{puts-none}
 use native.Mathlib.Omega.{arith}
 use borrow.Author.Needs.{needs}
 use Rattle.recorded_config.proofs.config_lines.put_plan.Statement.{statement}

@@ -1,8 +1,9 @@
 -- `recorded_config::config_lines::run_line` meets its contract: the text is that of the call, given and left. Assumes nothing.
 use Rattle.recorded_config.specs.ConfigLine.{givenText}
-use Rattle.recorded_config.proofs.Recording.{entries-within, clocks-count, line-is}
+use Rattle.named_config.proofs.Laws.{entries-within, clocks-count}
+use Rattle.recorded_config.proofs.Recording.{line-is}
 use Rattle.answered.proofs.Comparing.{same-line}
-use Rattle.lines.proofs.Putting.{puts-then}
+use Rattle.text.proofs.Putting.{puts-then}
 use native.Mathlib.Omega.{arith}
 use mathlib.Core.Path.{_∙_}
 use borrow.Author.Needs.{needs}

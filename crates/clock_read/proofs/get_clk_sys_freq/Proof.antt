@@ -1,0 +1,47 @@
+-- `clock_read::get_clk_sys_freq` meets its contract: the select picks the case of `sysOf`. Assumes nothing.
+use borrow.Author.Tests.{eq-eqb, ne-eqb}
+use Rattle.clock_read.specs.Hpsys.{sysOf}
+use borrow.Author.Needs.{needs}
+use Rattle.clock_read.proofs.get_clk_sys_freq.Statement.{statement}
+use Rattle.clock_read.proofs.get_clk_sys_freq.Tie as tie
+
+element-copy-out-select : tie.Need-element-copy-out-select
+element-copy-out-select c = search needs
+
+ready-freq-requires : tie.Need-ready-freq-requires
+ready-freq-requires c κs = search needs
+
+returns : tie.Need-returns
+unfolding sysOf
+returns c = simp (eq-eqb _ _ (c .before .if1 .taken), c .ready-freq .ensures)
+
+ready-freq-requires-2 : tie.Need-ready-freq-requires-2
+ready-freq-requires-2 c κs = search needs
+
+returns-2 : tie.Need-returns-2
+unfolding sysOf
+returns-2 c = simp (ne-eqb _ _ (c .before .before .if1 .left), eq-eqb _ _ (c .before .if2 .taken), c .ready-freq2 .ensures)
+
+get-clk-dll1-freq-requires : tie.Need-get-clk-dll1-freq-requires
+get-clk-dll1-freq-requires c κs = search needs
+
+returns-3 : tie.Need-returns-3
+unfolding sysOf
+returns-3 c = simp (ne-eqb _ _ (c .before .before .before .if1 .left), ne-eqb _ _ (c .before .before .if2 .left), eq-eqb _ _ (c .before .if3 .taken), c .get-clk-dll1-freq .ensures)
+
+returns-4 : tie.Need-returns-4
+unfolding sysOf
+returns-4 c = simp (ne-eqb _ _ (c .before .before .if1 .left), ne-eqb _ _ (c .before .if2 .left), ne-eqb _ _ (c .if3 .left))
+
+pub get-clk-sys-freq-spec : {M : Type 1} → statement M
+get-clk-sys-freq-spec =
+    tie.close
+    (tie.spec
+    element-copy-out-select
+    ready-freq-requires
+    returns
+    ready-freq-requires-2
+    returns-2
+    get-clk-dll1-freq-requires
+    returns-3
+    returns-4)

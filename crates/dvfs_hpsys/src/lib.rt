@@ -1,0 +1,68 @@
+// pmu/dvfs.rs: `config_hcpu_dvfs`, the half of the supply transition of HPSYS before the clock is set and the one after it.
+ghost use mathlib.Core.Path.{_≡_};
+ghost use Rattle.journal.specs.Machine.{Ran, Ready, Kept};
+ghost use Rattle.dvfs_hpsys.specs.HpsysModes.{isS, sameMode, hpsysFirst, hpsysSecond};
+use dvfs::HpsysDvfsMode;
+use journal::Machine;
+
+fn is_s(mode: HpsysDvfsMode) -> bool
+    ensures { λ r. ⌜ r ≡ isS mode ⌝ }
+{
+    match mode {
+        HpsysDvfsMode::D0 => false,
+        HpsysDvfsMode::D1 => false,
+        HpsysDvfsMode::S0 => true,
+        HpsysDvfsMode::S1 => true,
+    }
+}
+
+fn same_mode(current: HpsysDvfsMode, target: HpsysDvfsMode) -> bool
+    ensures { λ r. ⌜ r ≡ sameMode current target ⌝ }
+{
+    current.number() == target.number()
+}
+
+// `config_hcpu_dvfs` before the clock is set.
+pub fn config_hcpu_dvfs_first(
+    m: Machine,
+    journal: &mut [u32],
+    current: HpsysDvfsMode,
+    target: HpsysDvfsMode,
+) -> Machine
+    requires { ⌜ Ready 5 m (now journal) ⌝ }
+    ensures { λ r. ⌜ Ran (hpsysFirst current target) m r (now (journal .entry)) (now (journal .exit)) ⌝ }
+    ensures { λ r. ⌜ Kept 5 m r ⌝ }
+    ensures { λ r. ⌜ r .taken ≡ m .taken ⌝ }
+{
+    if same_mode(current, target) {
+        return m;
+    }
+    if is_s(target) {
+        if is_s(current) {
+            return hpsys_switch::switch_hcpu_dvfs_s2s_first(m, journal, target);
+        }
+        return hpsys_switch::switch_hcpu_dvfs_d2s_first(m, journal, target);
+    }
+    hpsys_switch::switch_hcpu_dvfs_s2d_first(m, journal, target)
+}
+
+// `config_hcpu_dvfs` after the clock is set.
+pub fn config_hcpu_dvfs_second(
+    m: Machine,
+    journal: &mut [u32],
+    current: HpsysDvfsMode,
+    target: HpsysDvfsMode,
+) -> Machine
+    requires { ⌜ Ready 2 m (now journal) ⌝ }
+    ensures { λ r. ⌜ Ran (hpsysSecond current target) m r (now (journal .entry)) (now (journal .exit)) ⌝ }
+    ensures { λ r. ⌜ Kept 2 m r ⌝ }
+    ensures { λ r. ⌜ r .taken ≡ m .taken ⌝ }
+{
+    if same_mode(current, target) {
+        return m;
+    }
+    if is_s(target) {
+        return m;
+    }
+    hpsys_switch::switch_hcpu_dvfs_s2d_second(m, journal, target)
+}

@@ -1,0 +1,3 @@
+// Fields of a line, taken apart.
+pub mod decimal;
+pub mod hex;

@@ -1,0 +1,23 @@
+-- The volts and the timing of a mode of HPSYS, pmu/dvfs.rs. Assumes nothing.
+use Prim.Native.Nat.{ℕ}
+use lib.IntN.{ℤ, pos, negsuc, _+ℤ_}
+use Rattle.journal.specs.Run.{Effect, _▸_, store}
+use Rattle.dvfs.specs.declared.hpsys.HpsysDvfsMode.{HpsysDvfsMode}
+use Rattle.dvfs.specs.Hpsys.{rowOf}
+
+-- a whole number that is not negative
+abbrev pub natural : ℤ → ℕ
+natural (pos n) = n
+natural (negsuc n) = 0
+
+-- the ldo of a D mode: "offsets −5, −3, 0, 2 on reference 11"
+unfoldable pub vrefOf : HpsysDvfsMode → ℕ
+vrefOf target = natural (pos 11 +ℤ rowOf target .«ldo_offset»)
+
+-- `config_hcpu_sx_mode_volt`: the S supply's buck, then its ldo
+unfoldable pub sxModeVolt : HpsysDvfsMode → Effect
+sxModeVolt target = store 13 (rowOf target .buck) ▸ store 14 (rowOf target .ldo)
+
+-- the memory timing of a mode
+unfoldable pub timing : HpsysDvfsMode → Effect
+timing target = store 17 (rowOf target .ulpmcr)

@@ -1,0 +1,17 @@
+-- `lpsys_dividers::div_refusal` meets its contract: the tests pick the case. Assumes nothing.
+use native.Mathlib.Omega.{arith}
+use borrow.Author.Tests.{lt-ltb, le-ltb}
+use Rattle.lpsys_dividers.proofs.div_refusal.Statement.{statement}
+use Rattle.lpsys_dividers.proofs.div_refusal.Tie as tie
+
+returns : tie.Need-returns
+returns c = simp (lt-ltb 7 (c .before .args .pdiv1) (omega arith))
+
+returns-2 : tie.Need-returns-2
+returns-2 c = simp (le-ltb 7 (c .before .before .args .pdiv1) (omega arith), lt-ltb 7 (c .before .before .args .pdiv2) (omega arith))
+
+returns-3 : tie.Need-returns-3
+returns-3 c = simp (le-ltb 7 (c .before .before .args .pdiv1) (omega arith), le-ltb 7 (c .before .before .args .pdiv2) (omega arith))
+
+pub div-refusal-spec : {M : Type 1} → statement M
+div-refusal-spec = tie.close (tie.spec returns returns-2 returns-3)

@@ -1,0 +1,20 @@
+-- `rikkovan::tasks::rikkovan_book` meets its contract: the call's answer, packed. Assumes nothing.
+use Rattle.answer_word.proofs.Giving.{gives}
+use borrow.Author.Needs.{needs}
+use Rattle.rikkovan.proofs.tasks.rikkovan_book.Statement.{statement}
+use Rattle.rikkovan.proofs.tasks.rikkovan_book.Tie as tie
+
+book-requires : tie.Need-book-requires
+book-requires c κs = search needs
+
+of-answer-requires : tie.Need-of-answer-requires
+of-answer-requires c κs = search needs
+
+same-length : tie.Need-same-length
+same-length c = search needs
+
+returns : tie.Need-returns
+returns c = gives (c .before .before .before .book .ensures) (c .of-answer .ensures)
+
+pub rikkovan-book-spec : {M : Type 1} → statement M
+rikkovan-book-spec = tie.close (tie.spec book-requires of-answer-requires same-length returns)

@@ -1,0 +1,20 @@
+-- `rikkovan::tasks::rikkovan_release` meets its contract: the call's answer, packed. Assumes nothing.
+use Rattle.answer_word.proofs.Giving.{gives}
+use borrow.Author.Needs.{needs}
+use Rattle.rikkovan.proofs.tasks.rikkovan_release.Statement.{statement}
+use Rattle.rikkovan.proofs.tasks.rikkovan_release.Tie as tie
+
+release-requires : tie.Need-release-requires
+release-requires c κs = search needs
+
+of-answer-requires : tie.Need-of-answer-requires
+of-answer-requires c κs = search needs
+
+same-length : tie.Need-same-length
+same-length c = search needs
+
+returns : tie.Need-returns
+returns c = gives (c .before .before .before .release .ensures) (c .of-answer .ensures)
+
+pub rikkovan-release-spec : {M : Type 1} → statement M
+rikkovan-release-spec = tie.close (tie.spec release-requires of-answer-requires same-length returns)

@@ -1,0 +1,4 @@
+pub mod Lists
+pub mod Places
+pub mod Holding
+pub mod Kept

@@ -1,0 +1,96 @@
+-- `text::put_words` meets its contract. The loop's invariant: the text keeps its length, and the first words stand in it. Assumes nothing.
+use Rattle.text.proofs.Putting.{puts-none}
+use Rattle.text.proofs.HexLaws.{field-none, puts-hex, puts-field}
+use Rattle.text.specs.Text.{Puts}
+use Rattle.text.specs.Hex.{hexOf}
+use borrow.Author.Needs.{needs}
+use native.Mathlib.Omega.{arith}
+use lib.ListN.{length, take}
+use mathlib.Core.Path.{_≡_, refl}
+use Prim.Native.Nat.{_-_, _≤_}
+use Rattle.text.proofs.put_words.Statement.{statement}
+use Rattle.text.proofs.put_words.Tie as tie
+
+abbrev Inv-loop : tie.InvT-loop
+Inv-loop words text₀ at end₀ i₀ text end i = (length text ≡ length text₀) × ((i ≤ length words) × Puts (hexOf 8 (take i words)) text₀ end₀ text end)
+
+abbrev μ-loop : tie.MeasureT-loop
+μ-loop words text₀ at end₀ i₀ text end i = length words - i
+
+slice-aggregate-put : tie.Need-slice-aggregate-put Inv-loop μ-loop
+slice-aggregate-put c = search needs
+
+put-requires : tie.Need-put-requires Inv-loop μ-loop
+put-requires c κs = search needs
+
+same-length : tie.Need-same-length Inv-loop μ-loop
+same-length c = search needs
+
+returns : tie.Need-returns Inv-loop μ-loop
+returns c = rw (field-none 8 (c .before .before .before .before .before .before .before .before .args .words .now) (omega arith)) (c .before .before .put .ensures)
+
+slice-aggregate-put-2 : tie.Need-slice-aggregate-put-2 Inv-loop μ-loop
+slice-aggregate-put-2 c = search needs
+
+put-requires-2 : tie.Need-put-requires-2 Inv-loop μ-loop
+put-requires-2 c κs = search needs
+
+loop-holds : tie.Need-loop-holds Inv-loop μ-loop
+unfolding hexOf
+loop-holds c = (refl, (omega arith, puts-none _ _ (omega arith)))
+
+mul-eight-digits : tie.Need-mul-eight-digits Inv-loop μ-loop
+mul-eight-digits c = search needs
+
+shared-slice-read-eight-digits : tie.Need-shared-slice-read-eight-digits Inv-loop μ-loop
+shared-slice-read-eight-digits c = search needs
+
+eight-digits-requires : tie.Need-eight-digits-requires Inv-loop μ-loop
+eight-digits-requires c κs = search needs
+
+slice-aggregate-put-3 : tie.Need-slice-aggregate-put-3 Inv-loop μ-loop
+slice-aggregate-put-3 c = search needs
+
+put-requires-3 : tie.Need-put-requires-3 Inv-loop μ-loop
+put-requires-3 c κs = search needs
+
+add-i : tie.Need-add-i Inv-loop μ-loop
+add-i c = search needs
+
+loop-less : tie.Need-loop-less Inv-loop μ-loop
+loop-less c = search needs
+
+loop-again : tie.Need-loop-again Inv-loop μ-loop
+loop-again c =
+    let l = c .before .before .before .before .before .before .before .before .loop in
+    (omega arith, (omega arith, puts-hex 8 (c .before .before .before .before .before .before .before .before .before .before .before .before .before .before .before .before .before .args .words .now) (l .i) (l .inv .1 .1) (rw (c .before .before .before .before .before .eight-digits .ensures) at (c .before .before .put3 .ensures)) (omega arith) (omega arith)))
+
+same-length-2 : tie.Need-same-length-2 Inv-loop μ-loop
+same-length-2 c = search needs
+
+returns-2 : tie.Need-returns-2 Inv-loop μ-loop
+returns-2 c = puts-field 8 (c .before .before .before .before .before .before .before .before .before .before .args .words .now) (c .before .loop .i) (c .before .before .before .before .put2 .ensures) (c .before .loop .inv .1 .1) (omega arith) (omega arith) (omega arith)
+
+pub put-words-spec : {M : Type 1} → statement M
+put-words-spec =
+    tie.close
+    (tie.spec
+    Inv-loop
+    μ-loop
+    slice-aggregate-put
+    put-requires
+    same-length
+    returns
+    slice-aggregate-put-2
+    put-requires-2
+    loop-holds
+    mul-eight-digits
+    shared-slice-read-eight-digits
+    eight-digits-requires
+    slice-aggregate-put-3
+    put-requires-3
+    add-i
+    loop-less
+    loop-again
+    same-length-2
+    returns-2)

@@ -1,0 +1,14 @@
+-- Fields of numbers in upper-case hexadecimal. Assumes nothing.
+use Prim.Native.Nat.{ℕ}
+use mathlib.Core.List.{List, [], _∷_, _++_}
+use Rattle.hexadecimal.specs.Hex.{hexDigits}
+
+-- `k` digits of each number, one after the other
+unfoldable pub hexOf : ℕ → List ℕ → List ℕ
+hexOf k [] = []
+hexOf k (n ∷ ns) = hexDigits k n ++ hexOf k ns
+
+-- a field of numbers, `-` for none
+unfoldable pub hexField : ℕ → List ℕ → List ℕ
+hexField k [] = 45 ∷ []
+hexField k (n ∷ ns) = hexOf k (n ∷ ns)
