@@ -68,7 +68,7 @@ compare-plans:
 	$(ORACLE) compare --quick --only plan --only config --only tasks
 
 compare-heads:
-	$(ORACLE) compare --quick --only heads --only lpsys
+	$(ORACLE) compare --quick --only heads --only lpsys --only change
 
 record: oracle
 	$(ORACLE) record crates/replay/data

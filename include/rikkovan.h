@@ -706,11 +706,82 @@ uint64_t rikkovan_book(uint8_t *head, size_t head_len, uint8_t id, uint32_t cycl
 uint64_t rikkovan_release(uint8_t *head, size_t head_len, uint8_t id);
 
 /*
+ * The guarded change
+ * ==================
+ *
+ * rikkovan_change sets the core clock of a running head as a plan has it, and its supply with it,
+ * as rikkovan_reconfigure_sysclk does, but only on a head that is fit and for a load that the
+ * plan's HCLK carries, and in an order in which the clock is at no moment too fast for the supply.
+ *
+ * The rail limit of a head is the highest HCLK that its active supply carries:
+ *
+ *   supply D   48 MHz where SET_VOUT_M is at least 10 and HPSYS_LDO at least 8,
+ *              24 MHz where they are at least 9 and 6
+ *   supply S   240 MHz where BUCK_VOUT is at least 15 and HPSYS_VOUT at least 13,
+ *              144 MHz where they are at least 13 and 11
+ *   else       0
+ *
+ * A head is fit where
+ *
+ *   - HCLK reads, and is at most the rail limit,
+ *   - no flash is on a DLL that is off,
+ *   - the clock of the LPSYS select reads: HXT48_READY is 1, or HRC48_READY,
+ *   - the LPSYS HCLK is at most 24 MHz, or the LPSYS supply is S.
+ *
+ * HCLK is what rikkovan_read_clocks gives, whatever the low-power select holds.
+ */
+#define RIKKOVAN_REFUSED_UNFIT 37      /* the head is not fit */
+#define RIKKOVAN_REFUSED_OSCILLATOR 38 /* HXT48 is not ready, or HRC48 is the plan's core and not */
+
+/*
+ * Changes the core clock of a fit head. Of the plan, core select, dividers and DLL1 are stored.
+ *
+ *   head, head_len        the buffer with the record, and the number of bytes at head
+ *   plan, plan_len        the plan's record, and the number of bytes at plan; it is only read
+ *   journal, journal_len  gets the entries, at most 20; and its number of words, 128 or more
+ *   answers, answers_len  the answers, and their number, at most 4,096; they are only read
+ *
+ * Modes and their values are those of rikkovan_reconfigure_sysclk. The peak is the highest mode
+ * among D1, that of the HCLK before the call and that of the plan's. The stores are, in this order:
+ *
+ *   1. where the rail limit is below the peak's, the peak's rails: for D0 and D1 SET_VOUT_M,
+ *      HPSYS_LDO and a delay of 250 us; for S0 and S1 BUCK_VOUT, HPSYS_VOUT, HPSYS_SUPPLY S, a
+ *      delay of 250 us, HPSYS_TIMING
+ *   2. where a flash is on DLL1, FLASH with that flash on the peripheral clock
+ *   3. where the core is not on HXT48, SYSCLK HXT48
+ *   4. where the plan has DLL1, HPBG with hpbg_en on and HPBG with hpbg_vddpsw_en on, each if it is
+ *      off, DLL1 off, DLL1 on with the plan's stage and half, a delay of 10 us and a wait of kind
+ *      RIKKOVAN_WAIT_DLL1
+ *   5. HPSYS_CFGR as the plan has it
+ *   6. SYSCLK as the plan has it
+ *   7. where step 2 stored, FLASH as it was before
+ *   8. the rails of the plan's mode: SET_VOUT_M and HPSYS_LDO, or BUCK_VOUT and HPSYS_VOUT, then
+ *      HPSYS_TIMING and HPSYS_SUPPLY
+ *
+ * Steps 5, 6 and 8 are made whether the registers hold these values or not. Only registers change.
+ *
+ * A call that is done leaves HCLK at the plan's, and the load of the head's tasks at most HCLK.
+ * One that no test refuses before its first store is done where the plan has no DLL1 or one of the
+ * answers is ready, and refused with RIKKOVAN_REFUSED_ANSWERS_RAN_OUT otherwise. Before the first
+ * entry and after each one HCLK reads and is at most the rail limit, and no flash is on a DLL that
+ * is off. So the head is fit again, done or refused, and stays fit as long as nothing but
+ * rikkovan_change, rikkovan_book, rikkovan_release and rikkovan_config_lpsys_hclk_mhz changes it.
+ *
+ * Refusals, in this order: RIKKOVAN_REFUSED_JOURNAL, RIKKOVAN_REFUSED_ANSWERS, the head's, the
+ * plan's (1 to 14), RIKKOVAN_REFUSED_UNFIT, RIKKOVAN_REFUSED_OSCILLATOR, and RIKKOVAN_REFUSED_LOAD
+ * where the load is above the plan's HCLK; they change nothing. RIKKOVAN_REFUSED_ANSWERS_RAN_OUT
+ * comes at step 4 and keeps what was done so far: the core is on HXT48, divided as before the call,
+ * flash that was on DLL1 is on the peripheral clock, and the load may be above HCLK.
+ */
+uint64_t rikkovan_change(uint8_t *head, size_t head_len, const uint8_t *plan, size_t plan_len,
+                         uint32_t *journal, size_t journal_len, const uint16_t *answers,
+                         size_t answers_len);
+
+/*
  * A refusal number in words: one line of text in static storage, never NULL.
  *
  * Numbers 1 to 18 refuse what a call was given, and 31 to 43 the state of the head. The plan check
- * answers 1 to 14 and a reading 1 to 3; of each other call its comment names them. 37 and 38
- * belong to a call that is not in this header yet.
+ * answers 1 to 14 and a reading 1 to 3; of each other call its comment names them.
  * For the word of a call on a head: rikkovan_refusal_text(rikkovan_refusal(word)).
  */
 static inline const char *rikkovan_refusal_text(uint64_t number)

@@ -1,9 +1,11 @@
-//! `oracle compare`: librikkovan.a against the original code, and its tasks
-//! against document 01.
+//! `oracle compare`: librikkovan.a against the original code, and its tasks and
+//! guarded change against document 01.
 
 use crate::tally::Tally;
 use crate::{compare_head, compare_plan};
 
+#[cfg(feature = "change")]
+use crate::compare_change;
 #[cfg(feature = "config")]
 use crate::compare_config;
 #[cfg(feature = "lpsys-request")]
@@ -12,7 +14,7 @@ use crate::compare_lpsys;
 use crate::compare_tasks;
 
 /// What is compared, by the names that `--only` takes.
-pub const PARTS: [&str; 5] = ["plan", "heads", "lpsys", "config", "tasks"];
+pub const PARTS: [&str; 6] = ["plan", "heads", "lpsys", "config", "tasks", "change"];
 
 /// How much is compared.
 #[derive(Clone, Copy, Default)]
@@ -20,8 +22,8 @@ pub struct Extent {
     /// A bounded part.
     pub quick: bool,
     /// Random plans, random heads, random calls of LPSYS, those of
-    /// `clock_config.rs` and those of tasks each go on for so many seconds at
-    /// least.
+    /// `clock_config.rs`, those of tasks and those of the guarded change each go
+    /// on for so many seconds at least.
     pub seconds: u64,
 }
 
@@ -48,6 +50,8 @@ fn part_of(part: &str, extent: Extent) -> Tally {
         "config" => compare_config::run(extent),
         #[cfg(feature = "tasks")]
         "tasks" => compare_tasks::run(extent),
+        #[cfg(feature = "change")]
+        "change" => compare_change::run(extent),
         _ => Tally::default(),
     }
 }

@@ -1,5 +1,5 @@
-//! Compares librikkovan.a with the original clock code, and its tasks with
-//! document 01; records the answers, and measures both.
+//! Compares librikkovan.a with the original clock code, and its tasks and guarded
+//! change with document 01; records the answers, and measures both.
 
 mod bench;
 mod compare;
@@ -57,6 +57,20 @@ mod task_calls;
 #[cfg(feature = "tasks")]
 mod task_inputs;
 
+// The guarded change.
+#[cfg(feature = "change")]
+mod change_calls;
+#[cfg(feature = "change")]
+mod change_inputs;
+#[cfg(feature = "change")]
+mod compare_change;
+#[cfg(feature = "change")]
+mod compare_lists;
+#[cfg(feature = "change")]
+mod ffi_change;
+#[cfg(feature = "change")]
+mod record_change;
+
 #[cfg(any(feature = "lpsys-request", feature = "config"))]
 mod ran;
 
@@ -72,12 +86,14 @@ usage: oracle compare [--quick] [--seconds N] [--only PART]..
 
 compare  the plan check, the readings, the calls of LPSYS and those of
          clock_config.rs of librikkovan.a against the original, and load check,
-         booking and release against document 01; exit status 1 on a difference.
+         booking, release and guarded change against document 01; exit status 1 on
+         a difference, or where a clause of demand 3 is broken.
          --quick: a bounded part. --seconds N: random plans, random heads and
          random calls of each sort go on for N seconds at least each. --only PART:
-         plan, heads, lpsys, config or tasks; may be given several times.
-record   writes DIR/plans.txt, DIR/heads.txt, DIR/lpsys.txt, DIR/config.txt and
-         DIR/tasks.txt: plans, heads and calls in hex and the answers to them.
+         plan, heads, lpsys, config, tasks or change; may be given several times.
+record   writes DIR/plans.txt, DIR/heads.txt, DIR/lpsys.txt, DIR/config.txt,
+         DIR/tasks.txt and DIR/change.txt: plans, heads and calls in hex and the
+         answers to them.
 bench    nanoseconds per plan check, reading and call of clock_config.rs of both.";
 
 fn main() -> ExitCode {

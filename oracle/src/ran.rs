@@ -84,9 +84,10 @@ impl Ran {
         self.word >> 48 & 0x7FFF
     }
 
-    /// The entries written.
+    /// The entries written, as far as they lie in the lent journal.
     pub fn entries(&self) -> &[u32] {
-        &self.journal[1..=(self.word >> 32 & 0xFFFF) as usize]
+        let entries = (self.word >> 32 & 0xFFFF) as usize;
+        &self.journal[1..=entries.min(self.journal.len() - 2)]
     }
 
     /// The head's buffer after the call.

@@ -1,6 +1,6 @@
 //! `oracle record`: plans, heads and calls with the original's answers, and of
-//! tasks with document 01's, for a program that replays them. The same files each
-//! time.
+//! tasks and guarded changes with document 01's, for a program that replays them.
+//! The same files each time.
 
 use crate::tally::{ANSWERS, hex};
 use crate::{record_head, record_plan};
@@ -9,6 +9,8 @@ use std::fs;
 use std::io;
 use std::path::Path;
 
+#[cfg(feature = "change")]
+use crate::record_change;
 #[cfg(feature = "config")]
 use crate::record_config;
 #[cfg(feature = "lpsys-request")]
@@ -102,5 +104,7 @@ pub fn run(directory: &Path) -> io::Result<()> {
     record_config::write(directory)?;
     #[cfg(feature = "tasks")]
     record_tasks::write(directory)?;
+    #[cfg(feature = "change")]
+    record_change::write(directory)?;
     Ok(())
 }

@@ -24,6 +24,8 @@ extern crate self as critical_section;
 
 pub mod call;
 pub mod caught;
+pub mod change;
+pub mod claim;
 pub mod head;
 pub mod pac;
 pub mod plan;

@@ -18,6 +18,9 @@ pub struct Tally {
     entries: usize,
     /// How often a done call had a refusal number, or 0, as its value.
     values: [u64; ANSWERS],
+    /// Moments of which demand 3 was asked, and calls that broke a clause of it.
+    moments: u64,
+    broken: u64,
 }
 
 impl Default for Tally {
@@ -28,6 +31,8 @@ impl Default for Tally {
             answers: [0; ANSWERS],
             entries: 0,
             values: [0; ANSWERS],
+            moments: 0,
+            broken: 0,
         }
     }
 }
@@ -65,7 +70,23 @@ impl Tally {
         }
     }
 
+    /// Counts the moments of a call, and the call as different where it breaks a
+    /// clause of demand 3.
+    #[cfg(feature = "change")]
+    pub fn claim(&mut self, input: impl Display, moments: usize, held: Result<(), String>) {
+        self.moments += moments as u64;
+        if let Err(text) = held {
+            self.different += 1;
+            self.broken += 1;
+            if self.broken <= SHOWN {
+                println!("  breaks demand 3: {input}: {text}");
+            }
+        }
+    }
+
     pub fn add(&mut self, other: &Tally) {
+        self.moments += other.moments;
+        self.broken += other.broken;
         self.compared += other.compared;
         self.different += other.different;
         for (sum, count) in self.answers.iter_mut().zip(other.answers) {
@@ -132,6 +153,12 @@ impl Groups {
         );
         if sum.entries > 0 {
             println!("{call}, most entries: {}", sum.entries);
+        }
+        if sum.moments > 0 {
+            println!(
+                "{call}, demand 3: {} moments, {} calls break it",
+                sum.moments, sum.broken
+            );
         }
         let values: Vec<usize> = (0..ANSWERS).filter(|&v| sum.values[v] > 0).collect();
         if !values.is_empty() {

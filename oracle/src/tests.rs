@@ -1,6 +1,7 @@
 //! Cases worked out by hand from document 01 and the original code.
 
 mod calibration;
+mod change;
 mod init;
 mod lpsys;
 mod plan;

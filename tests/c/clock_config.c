@@ -77,23 +77,6 @@ static void expect_clocks(const char *name, enum which which, const struct besid
     }
 }
 
-/* Puts the stores among the entries into the head that is wanted, and counts the entries. */
-static int put_stores(uint8_t *wanted, const uint32_t *entry)
-{
-    int k;
-
-    for (k = 0; entry[k] != 0; k++) {
-        uint32_t number = rikkovan_entry_number(entry[k]), value = rikkovan_entry_value(entry[k]);
-
-        if (number > RIKKOVAN_REG_LPSYS_MAC)
-            continue;
-        wanted[RIKKOVAN_HEAD_A(number)] = (uint8_t)(value >> 16);
-        wanted[RIKKOVAN_HEAD_B(number)] = (uint8_t)(value >> 8 & 0xFF);
-        wanted[RIKKOVAN_HEAD_C(number)] = (uint8_t)(value & 0xFF);
-    }
-    return k;
-}
-
 /*
  * A call on the head that make_head makes and the default plan, with some bytes set in both. The
  * first answers are those listed; those past them are 0. It answers the refusal, or the value where

@@ -86,6 +86,23 @@ static void lend(struct lent *lent, const struct edit *edit, int edits, const st
         lent->journal[i] = BEFORE;
 }
 
+/* Puts the stores among the entries into the head that is wanted, and counts the entries. */
+static inline int put_stores(uint8_t *wanted, const uint32_t *entry)
+{
+    int k;
+
+    for (k = 0; entry[k] != 0; k++) {
+        uint32_t number = rikkovan_entry_number(entry[k]), value = rikkovan_entry_value(entry[k]);
+
+        if (number > RIKKOVAN_REG_LPSYS_MAC)
+            continue;
+        wanted[RIKKOVAN_HEAD_A(number)] = (uint8_t)(value >> 16);
+        wanted[RIKKOVAN_HEAD_B(number)] = (uint8_t)(value >> 8 & 0xFF);
+        wanted[RIKKOVAN_HEAD_C(number)] = (uint8_t)(value & 0xFF);
+    }
+    return k;
+}
+
 /* The head is the one that was wanted, and the journal has these entries and nothing else new. */
 static void expect_left(const char *name, const struct lent *lent, int entries,
                         const uint32_t *entry)

@@ -123,6 +123,7 @@ check 'LPSYS request' calls lpsys_request
 check 'the other LPSYS calls' calls lpsys_calls
 check 'calibration, init and reconfigure' calls clock_config
 check 'load check, booking and release' calls tasks
+check 'guarded change' calls change
 check 'make-plans.sh writes the shipped plans' plans_are_made_again
 check 'make-tasks.sh writes the shipped tasks' tasks_are_made_again
 check 'daemon on the shipped plans' daemon_on_plans

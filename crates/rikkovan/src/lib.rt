@@ -1,4 +1,5 @@
 // What C calls, as include/rikkovan.h declares it.
+mod change;
 mod config;
 mod lpsys;
 mod tasks;

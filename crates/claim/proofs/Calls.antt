@@ -1,0 +1,224 @@
+-- Each of the four calls is good on a fit head. Assumes nothing.
+use Prim.Native.Nat.{ℕ, zero, suc, _≤_, _<_}
+use mathlib.Core.Path.{_≡_, refl, ap, sym, _∙_, subst}
+use mathlib.Core.Bool.{Bool, true, false, false≢true, cond, not, _&&_, _||_}
+use mathlib.Core.List.{List, [], _∷_, _++_}
+use native.Mathlib.Omega.{arith}
+use lib.Dec.{eqb, leb, ltb}
+use lib.ListN.{length}
+use borrow.Author.Tests.{eqb-true, eqb-false, eq-eqb, ne-eqb, ltb-false, leb-true}
+use Rattle.time.specs.declared.Hertz.{Hertz}
+use Rattle.record.specs.Bytes.{Bytes}
+use Rattle.record.specs.Refusals.{refuse, firstOf}
+use Rattle.record.proofs.Refusals.{none-at, not-refused, not-refused-unless, only-test, first-passes, first-append}
+use Rattle.plan.specs.declared.Plan.{Plan}
+use Rattle.plan.specs.declared.Decoded.{Decoded}
+use Rattle.plan.specs.declared.Decoded.the-variants.{Read, Unread}
+use Rattle.plan.specs.Plan.{planOf, recordRefusal, decoded}
+use Rattle.plan_clocks.specs.Clocks.{hclkHz}
+use Rattle.verdict.specs.Verdict.{planRefusal, verdictOf, judged, verdict, numberOf}
+use Rattle.verdict.proofs.Passed.{Passed, number-is}
+use Rattle.verdict.proofs.Passed as verdicts
+use Rattle.task.specs.declared.Task.{Task}
+use Rattle.task.specs.Task.{InBytes}
+use Rattle.head.specs.declared.Head.{Head}
+use Rattle.head.specs.Head.{headRefusal, headOf, booked}
+use Rattle.head.specs.Encodable.{Encodable}
+use Rattle.head.proofs.Passed.{passed}
+use Rattle.head.proofs.Decoding.{decode-encodable}
+use Rattle.clock_read.specs.Hpsys.{hertz, sysOf, hclkOf}
+use Rattle.lpsys_read.specs.Lpsys.{lpsysSysOf, lpsysHclkOf}
+use Rattle.journal.specs.Run.{Run, Effect, begin}
+use Rattle.rail.specs.Rail.{railLimit}
+use Rattle.fit.specs.Fit.{fits}
+use Rattle.load.specs.Load.{loadOf}
+use Rattle.call.specs.Call.{Result, headTests, journalTests, answersTests, refused, finished, performed, headCall}
+use Rattle.tasks.specs.Tasks.{holding, without, withTask, withoutTask}
+use Rattle.tasks.proofs.Holding.{booked-holding}
+use Rattle.tasks.proofs.Kept.{less-encodable}
+use Rattle.call.proofs.Changed.{done-buffer, refused-buffer, refusal-first, own-passed, left-head}
+use Rattle.booking.specs.Booking.{bookTests, book}
+use Rattle.booking.proofs.Laws.{passed-load, passed-encodable}
+use Rattle.release.specs.Release.{releaseTests, release}
+use Rattle.release.proofs.Laws.{passed-has}
+use Rattle.lpsys_request.specs.Request.{request}
+use Rattle.clock_lpsys.specs.Calls.{outOfRange, requestTests, lpsysRequest}
+use Rattle.guard_steps.specs.Steps.{change}
+use Rattle.guard_safe.specs.Moment.{Ready, stopFor}
+use Rattle.guard_safe.proofs.View.{begun}
+use Rattle.guard_safe.proofs.Change.{Changed, change-moments}
+use Rattle.request_fit.proofs.Coded.{codes-now}
+use Rattle.request_fit.proofs.Requests.{request-moments, request-codes}
+use Rattle.guard.specs.Guard.{unready, changeTests, changeRefusal, changeCall}
+use Rattle.claim.specs.Claim.{Call, changing, booking, releasing, requesting, perform, Typed, after, Carries, Asked, FitHead}
+use Rattle.claim.proofs.Written.{written-bytes}
+use Rattle.claim.proofs.Performed.{Fine, quiet-moments, quiet-regs, unchanged, ran, ran-tasks, ran-head}
+
+-- a number that is 0 or not
+either : (n : ℕ) → Dec (n ≡ 0)
+either zero = yes refl
+either (suc n) = no (λ e. omega (arith, e))
+
+-- a call whose tests refuse it, and one whose tests pass
+refused-is : (n : ℕ) (f : Effect) (v : ℕ) (b j : List ℕ) → (n ≡ 0 → ⊥) → performed n f v b j ≡ refused n b j
+unfolding performed
+refused-is n f v b j z = rw (ne-eqb n 0 z)
+
+ran-is : (n : ℕ) (f : Effect) (v : ℕ) (b j : List ℕ) → n ≡ 0 → performed n f v b j ≡ finished (f (begin (headOf b))) v b j
+unfolding performed
+ran-is n f v b j e = rw e
+
+module _ (b : List ℕ) (fit : FitHead b) (ts : List Task) (holds : booked (headOf b) ≡ ts) where
+  abbrev h : Head
+  h = headOf b
+
+  ok : Encodable h
+  ok = decode-encodable b (fit .bytes) (fit .read)
+
+  -- LPSYS requests
+  in-range : (f : ℕ) (j : List ℕ) → firstOf (journalTests b j ++ requestTests f) ≡ 0 → (1 ≤ f) × (f ≤ 48)
+  in-range f j e =
+      let out = not-refused 14 (outOfRange f) (none-at (journalTests b j ++ requestTests f) e 2) in
+      (omega (arith, eqb-false f 0 (or-left (eqb f 0) (ltb 48 f) out)), ltb-false 48 f (or-right (eqb f 0) (ltb 48 f) out))
+    where
+      or-left : (x y : Bool) → (x || y) ≡ false → x ≡ false
+      or-left true y e = e
+      or-left false y e = refl
+
+      or-right : (x y : Bool) → (x || y) ≡ false → y ≡ false
+      or-right true y e = absurd (false≢true (sym e))
+      or-right false y e = e
+
+  pub requests : (f : ℕ) (j : List ℕ) → Fine b (requesting f j) (lpsysRequest f b j) ts
+  unfolding lpsysRequest
+  requests f j = by (either (firstOf (journalTests b j ++ requestTests f)))
+    where
+      by : Dec (firstOf (journalTests b j ++ requestTests f) ≡ 0) → Fine b (requesting f j) (performed (firstOf (journalTests b j ++ requestTests f)) (request f) 0 b j) ts
+      by (yes e) =
+          let p = in-range f j e in
+          let codes = request-codes f h ok (fit .fit) (p .0) (p .1) in
+          rw (ran-is (firstOf (journalTests b j ++ requestTests f)) (request f) 0 b j e)
+          (ran b fit (requesting f j) ts holds (request f (begin h)) 0 j (request-moments f h ok (fit .fit) (p .0) (p .1)) (codes-now h (request f (begin h)) codes) (codes .only) refl tt)
+      by (no z) =
+          rw (refused-is (firstOf (journalTests b j ++ requestTests f)) (request f) 0 b j z)
+          (unchanged b fit (requesting f j) ts holds (refused (firstOf (journalTests b j ++ requestTests f)) b j) refl refl refl tt)
+
+  -- guarded changes: what the tests say of one that passes them
+  accepted : (pb : List ℕ) → numberOf (verdict pb) ≡ 0 → planRefusal (planOf pb) ≡ 0
+  unfolding verdict decoded
+  accepted pb e = by (eqb (recordRefusal pb) 0) refl e
+    where
+      by : (t : Bool) → eqb (recordRefusal pb) 0 ≡ t → numberOf (judged (cond t (Read (planOf pb)) (Unread (recordRefusal pb)))) ≡ 0 → planRefusal (planOf pb) ≡ 0
+      by true q e = sym (number-is (planOf pb)) ∙ e
+      by false q e = absurd (eqb-false (recordRefusal pb) 0 q e)
+
+  sources : (p : Plan) → unready p h ≡ false → Ready p h
+  sources p e = record { hxt48 = hxt48 (h .«hxt48_ready») _ e; hrc48 = λ z. hrc48 (h .«hxt48_ready») (eqb (p .sys) 0) (h .«hrc48_ready») (eq-eqb (p .sys) 0 z) e }
+    where
+      hxt48 : (x y : Bool) → (not x || y) ≡ false → x ≡ true
+      hxt48 true y e = refl
+      hxt48 false y e = absurd (false≢true (sym e))
+
+      hrc48 : (x s y : Bool) → s ≡ true → (not x || (s && not y)) ≡ false → y ≡ true
+      hrc48 true true true q e = refl
+      hrc48 true true false q e = absurd (false≢true (sym e))
+      hrc48 true false y q e = absurd (false≢true q)
+      hrc48 false s y q e = absurd (false≢true (sym e))
+
+  module _ (pb j a : List ℕ) where
+    abbrev p : Plan
+    p = planOf pb
+
+    abbrev c : Call
+    c = changing pb j a
+
+    abbrev n : ℕ
+    n = changeRefusal pb b j a
+
+    module _ (e : n ≡ 0) where
+      own : Passed p × (Ready p h × (loadOf (booked h) ≤ hclkHz p))
+      own =
+          let at = none-at (answersTests b j a ++ changeTests pb b) e in
+          (verdicts.passed p (accepted pb (at 3)), (sources p (not-refused 37 (unready p h) (at 5)), ltb-false (hclkHz p) (loadOf (booked h)) (not-refused 38 _ (at 6))))
+
+      did : Changed h p a (change p a (begin h))
+      did = change-moments h p a ok (fit .fit) (own .0) (own .1 .0)
+
+      changes : Fine b c (finished (change p a (begin h)) 0 b j) ts
+      changes =
+          let r = change p a (begin h) in
+          ran b fit c ts holds r 0 j (did .moments) (did .encodable) (did .rest) refl
+          ((λ z. did .stop), λ z. (ap hclkOf (ran-head b fit c ts holds r 0 j (did .moments) (did .encodable) (did .rest)) ∙ did .clock z, subst (λ (l : List Task). loadOf l ≤ hclkHz p) holds (own .1 .1)))
+
+    pub guarded : Fine b c (changeCall pb b j a) ts
+    unfolding changeCall
+    guarded = by (either n)
+      where
+        by : Dec (n ≡ 0) → Fine b c (performed n (change p a) 0 b j) ts
+        by (yes e) = rw (ran-is n (change p a) 0 b j e) (changes e)
+        by (no z) = rw (refused-is n (change p a) 0 b j z) (unchanged b fit c ts holds (refused n b j) refl refl refl ((λ e. absurd (z e)), λ e. absurd (z e)))
+
+  -- bookings and releases: nothing is stored
+  silent : (tests : List ℕ) (f : Head → Head) → headCall tests f b .entries ≡ 0
+  silent tests f = by (either (firstOf (headTests b ++ tests)))
+    where
+      by : Dec (firstOf (headTests b ++ tests) ≡ 0) → headCall tests f b .entries ≡ 0
+      by (yes e) = rw (ran-is (firstOf (headTests b ++ tests)) _ 0 b [] e)
+      by (no z) = rw (refused-is (firstOf (headTests b ++ tests)) _ 0 b [] z)
+
+  same-fit : (xs : List Task) → fits (holding xs h) ≡ fits h
+  unfolding fits hclkOf sysOf railLimit lpsysHclkOf lpsysSysOf
+  same-fit xs = refl
+
+  -- a call on the head alone, answered done, that leaves the tasks `xs` booked
+  module _ (c : Call) (tests : List ℕ) (f : Head → Head) (e : headCall tests f b .refusal ≡ 0) (enc : Encodable (f h)) (xs : List Task) (is : f h ≡ holding xs h) where
+    abbrev o : Result
+    o = headCall tests f b
+
+    left : (headRefusal (o .buffer) ≡ 0) × (headOf (o .buffer) ≡ f h)
+    left = left-head tests f b e (passed b (fit .read) .length) enc
+
+    head-is : headOf (o .buffer) ≡ holding xs h
+    head-is = left .1 ∙ is
+
+    bytes-left : Bytes (o .buffer)
+    bytes-left = rw (done-buffer tests f b (sym (refusal-first tests f b) ∙ e)) (written-bytes (f h) enc b (fit .bytes))
+
+    held : after c (o .refusal) ts ≡ xs → Asked c b o xs → Fine b c o ts
+    held kept asked =
+        record {
+          good = record {
+            moments = quiet-moments b o (silent tests f) (fit .fit);
+            last = quiet-regs b o (silent tests f) (ap (λ (g : Head). g .regs) head-is);
+            returns = left .0;
+            tasks = ap booked head-is ∙ (booked-holding xs h ∙ sym kept);
+            asked = subst (Asked c b o) (sym kept) asked;
+          };
+          next = record { bytes = bytes-left; read = left .0; fit = ap fits head-is ∙ (same-fit xs ∙ fit .fit) };
+        }
+
+  pub books : (t : Task) → InBytes t → Fine b (booking t) (book t b) ts
+  unfolding book hclkOf sysOf
+  books t small = by (either (headCall (bookTests t h) (withTask t) b .refusal))
+    where
+      by : Dec (headCall (bookTests t h) (withTask t) b .refusal ≡ 0) → Fine b (booking t) (headCall (bookTests t h) (withTask t) b) ts
+      by (yes e) =
+          let own = own-passed (bookTests t h) (withTask t) b e in
+          let clock = begun h (fit .fit) in
+          held (booking t) (bookTests t h) (withTask t) e (passed-encodable t h own ok small) (booked h ++ (t ∷ [])) refl (rw (e, holds))
+          (λ z. (clock .hz, (ap hclkOf (head-is (booking t) (bookTests t h) (withTask t) e (passed-encodable t h own ok small) (booked h ++ (t ∷ [])) refl) ∙ clock .at, passed-load t h own _ (clock .at))))
+      by (no z) =
+          let same = refused-buffer (bookTests t h) (withTask t) b (λ q. z (refusal-first (bookTests t h) (withTask t) b ∙ q)) in
+          unchanged b fit (booking t) ts holds (headCall (bookTests t h) (withTask t) b) (silent (bookTests t h) (withTask t)) same (rw (ne-eqb _ 0 z)) (λ q. absurd (z q))
+
+  pub releases : (id : ℕ) → Fine b (releasing id) (release id b) ts
+  unfolding release
+  releases id = by (either (headCall (releaseTests id h) (withoutTask id) b .refusal))
+    where
+      by : Dec (headCall (releaseTests id h) (withoutTask id) b .refusal ≡ 0) → Fine b (releasing id) (headCall (releaseTests id h) (withoutTask id) b) ts
+      by (yes e) =
+          let has = passed-has id h (own-passed (releaseTests id h) (withoutTask id) b e) in
+          held (releasing id) (releaseTests id h) (withoutTask id) e (less-encodable id h ok has) (without id (booked h)) refl (rw (e, holds)) tt
+      by (no z) =
+          let same = refused-buffer (releaseTests id h) (withoutTask id) b (λ q. z (refusal-first (releaseTests id h) (withoutTask id) b ∙ q)) in
+          unchanged b fit (releasing id) ts holds (headCall (releaseTests id h) (withoutTask id) b) (silent (releaseTests id h) (withoutTask id)) same (rw (ne-eqb _ 0 z)) tt

@@ -1,0 +1,6 @@
+pub mod Heads
+pub mod Written
+pub mod Performed
+pub mod Calls
+pub mod Demand
+pub mod Examples

@@ -1,0 +1,1 @@
+// Demand 3: the statement is specs/Claim.antt, its proof proofs/Demand.antt.

@@ -1,0 +1,40 @@
+-- The tests of a fit head, as far as they are passed. Assumes nothing.
+use Prim.Native.Nat.{ℕ, _≤_, _<_}
+use mathlib.Core.Path.{_≡_, refl}
+use mathlib.Core.Bool.{true, false}
+use borrow.Author.Tests.{le-leb, lt-leb}
+use Rattle.time.specs.declared.Hertz.{Hertz}
+use Rattle.time.specs.declared.Reading.the-variants.{At, Unreadable}
+use Rattle.register.specs.Word.{byteB, byteC}
+use Rattle.head.specs.declared.Head.{Head}
+use Rattle.clock_read.specs.Hpsys.{reg, hclkOf}
+use Rattle.lpsys_read.specs.Lpsys.{lpsysHclkOf}
+use Rattle.rail.specs.Rail.{railLimit}
+use Rattle.fit.specs.Fit.{within, lit, lpsysFit, fits}
+
+module _ (h : Head) where
+  pub unread : hclkOf h ≡ Unreadable → fits h ≡ false
+  unfolding fits
+  unread e = rw e
+
+  module _ (f : Hertz) (e : hclkOf h ≡ At f) where
+    pub too-fast : railLimit h < f .0 → fits h ≡ false
+    unfolding fits
+    too-fast l = rw (e, lt-leb (f .0) (railLimit h) l)
+
+    pub carried : f .0 ≤ railLimit h → within (hclkOf h) (railLimit h) ≡ true
+    carried l = rw e (le-leb (f .0) (railLimit h) l)
+
+  module _ (p : within (hclkOf h) (railLimit h) ≡ true) where
+    pub first-dark : lit (byteB (reg h 5)) (reg h 3) (reg h 4) ≡ false → fits h ≡ false
+    unfolding fits
+    first-dark e = rw (p, e)
+
+    module _ (q : lit (byteB (reg h 5)) (reg h 3) (reg h 4) ≡ true) where
+      pub second-dark : lit (byteC (reg h 5)) (reg h 3) (reg h 4) ≡ false → fits h ≡ false
+      unfolding fits
+      second-dark e = rw (p, q, e)
+
+      pub rest : lit (byteC (reg h 5)) (reg h 3) (reg h 4) ≡ true → fits h ≡ lpsysFit (lpsysHclkOf h) (reg h 28)
+      unfolding fits
+      rest e = rw (p, q, e)

@@ -1,0 +1,54 @@
+-- `guard_change::change` meets its contract: the head gives the peak and the flash selects, then one half after the other. Assumes nothing.
+use native.Mathlib.Omega.{arith}
+use mathlib.Core.Path.{_≡_, sym}
+use Rattle.head.specs.declared.Head.{Head}
+use Rattle.time.specs.Frequency.{hzOr}
+use Rattle.plan_clocks.specs.Clocks.{hclkHz}
+use Rattle.clock_read.specs.Hpsys.{reg, hclkOf}
+use Rattle.journal.proofs.Steps.{then-quiet, of-head}
+use Rattle.guard_steps.specs.Steps.{peakOf, steps, change}
+use borrow.Author.Needs.{needs}
+use Rattle.guard_change.proofs.change.Statement.{statement}
+use Rattle.guard_change.proofs.change.Tie as tie
+
+element-copy-out-selects : tie.Need-element-copy-out-selects
+element-copy-out-selects c = search needs
+
+get-hclk-freq-requires : tie.Need-get-hclk-freq-requires
+get-hclk-freq-requires c κs = search needs
+
+unwrap-or-requires : tie.Need-unwrap-or-requires
+unwrap-or-requires c κs = search needs
+
+peak-requires : tie.Need-peak-requires
+peak-requires c κs = search needs
+
+leave-requires : tie.Need-leave-requires
+leave-requires c κs = search needs
+
+arrive-requires : tie.Need-arrive-requires
+arrive-requires c κs = (search needs, (c .before .before .before .before .before .before .before .before .before .before .before .before .pre .1 .1 .0, (c .before .before .before .before .before .before .before .before .before .before .before .before .pre .0 .encodable .codes 5 (omega arith), c .before .before .before .before .before .before .before .before .before .before .before .before .pre .1 .1 .1)))
+
+same-length : tie.Need-same-length
+same-length c = search needs
+
+returns : tie.Need-returns
+unfolding change
+returns c =
+    let start = c .before .before .before .before .before .before .before .before .before .before .before .before .before .before .before in
+    let peak : peakOf (hzOr 0 (hclkOf (start .args .m .head))) (hclkHz (start .args .p)) ≡ c .before .before .before .before .before .before .before .before .peak .result = simp (← c .before .before .before .before .before .before .before .before .before .before .get-hclk-freq .ensures, ← c .before .before .before .before .before .before .before .before .before .unwrap-or .ensures, ← start .pre .1 .1 .1) (sym (c .before .before .before .before .before .before .before .before .peak .ensures)) in
+    of-head (λ (h : Head). steps (peakOf (hzOr 0 (hclkOf h)) (hclkHz (start .args .p))) (reg h 5) (start .args .p) (start .args .answers .now))
+    (rw peak (then-quiet (c .before .before .before .before .before .before .leave .ensures) (c .before .before .arrive .ensures)))
+
+pub change-spec : {M : Type 1} → statement M
+change-spec =
+    tie.close
+    (tie.spec
+    element-copy-out-selects
+    get-hclk-freq-requires
+    unwrap-or-requires
+    peak-requires
+    leave-requires
+    arrive-requires
+    same-length
+    returns)

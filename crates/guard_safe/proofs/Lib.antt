@@ -1,0 +1,8 @@
+pub mod Rails
+pub mod Clean
+pub mod View
+pub mod Waits
+pub mod Came
+pub mod Supply
+pub mod Core
+pub mod Change

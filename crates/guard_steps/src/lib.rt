@@ -1,0 +1,101 @@
+// The steps of the guarded change that move the flash selects and the core's.
+ghost use mathlib.Core.Path.{_≡_};
+ghost use mathlib.Core.Bool.{true};
+ghost use Prim.Native.Nat.{_<_};
+ghost use Rattle.plan.specs.Plan.{legal};
+ghost use Rattle.register.specs.Codes.{fitsRegister};
+ghost use Rattle.journal.specs.Machine.{Ran, Ready, Kept};
+ghost use Rattle.guard_steps.specs.Steps.{onDll1, away, moved, leaveDll1, toHxt48, toPlanned, backTo};
+use journal::Machine;
+use plan::Plan;
+
+const DLL1: u32 = 1;
+
+const HXT48: u32 = 1;
+
+// Whether one of the flash selects is on DLL1.
+fn is_on_dll1(selects: u32) -> bool
+    ensures { λ r. ⌜ r ≡ onDll1 selects ⌝ }
+{
+    if head::b(selects) == DLL1 {
+        return true;
+    }
+    head::c(selects) == DLL1
+}
+
+// Peri in place of DLL1.
+fn away(select: u32) -> u32
+    requires { ⌜ select < 256 ⌝ }
+    ensures { λ r. ⌜ (r ≡ away select) × (r < 256) ⌝ }
+{
+    if select == DLL1 {
+        return 0;
+    }
+    select
+}
+
+fn moved(selects: u32) -> u32
+    requires { ⌜ fitsRegister 5 selects ≡ true ⌝ }
+    ensures { λ r. ⌜ (r ≡ moved selects) × (fitsRegister 5 r ≡ true) ⌝ }
+{
+    let first = away(head::b(selects));
+    let second = away(head::c(selects));
+    head::word(0, first, second)
+}
+
+// Step 2: flash selects on DLL1 go to Peri.
+pub fn leave_dll1(m: Machine, journal: &mut [u32]) -> Machine
+    requires { ⌜ Ready 1 m (now journal) ⌝ }
+    ensures { λ r. ⌜ Ran leaveDll1 m r (now (journal .entry)) (now (journal .exit)) ⌝ }
+    ensures { λ r. ⌜ Kept 1 m r ⌝ }
+    ensures { λ r. ⌜ r .taken ≡ m .taken ⌝ }
+{
+    let head = m.head;
+    let selects = head.regs[5];
+    if is_on_dll1(selects) {
+        return m.store(journal, 5, moved(selects));
+    }
+    m
+}
+
+// Step 3: the core goes to HXT48.
+pub fn to_hxt48(m: Machine, journal: &mut [u32]) -> Machine
+    requires { ⌜ Ready 1 m (now journal) ⌝ }
+    ensures { λ r. ⌜ Ran toHxt48 m r (now (journal .entry)) (now (journal .exit)) ⌝ }
+    ensures { λ r. ⌜ Kept 1 m r ⌝ }
+    ensures { λ r. ⌜ r .taken ≡ m .taken ⌝ }
+{
+    let head = m.head;
+    let select = head.regs[1];
+    if select == HXT48 {
+        return m;
+    }
+    m.store(journal, 1, HXT48)
+}
+
+// Step 6: the core goes to the plan's select.
+pub fn to_planned(m: Machine, journal: &mut [u32], p: Plan) -> Machine
+    requires { ⌜ Ready 1 m (now journal) ⌝ }
+    requires { ⌜ legal p ≡ true ⌝ }
+    ensures { λ r. ⌜ Ran (toPlanned p) m r (now (journal .entry)) (now (journal .exit)) ⌝ }
+    ensures { λ r. ⌜ Kept 1 m r ⌝ }
+    ensures { λ r. ⌜ r .taken ≡ m .taken ⌝ }
+{
+    let sys = p.sys;
+    m.store(journal, 1, sys as u32)
+}
+
+// Step 7: flash selects that were on DLL1 go back to what they were.
+pub fn back_to(m: Machine, journal: &mut [u32], selects: u32) -> Machine
+    requires { ⌜ Ready 1 m (now journal) ⌝ }
+    requires { ⌜ fitsRegister 5 selects ≡ true ⌝ }
+    ensures { λ r. ⌜ Ran (backTo selects) m r (now (journal .entry)) (now (journal .exit)) ⌝ }
+    ensures { λ r. ⌜ Kept 1 m r ⌝ }
+    ensures { λ r. ⌜ r .taken ≡ m .taken ⌝ }
+{
+    let were_moved = is_on_dll1(selects);
+    if were_moved {
+        return m.store(journal, 5, selects);
+    }
+    m
+}

@@ -1,0 +1,85 @@
+// The supply in the guarded change: the peak, the volts raised before it and settled after it.
+ghost use mathlib.Core.Path.{_≡_};
+ghost use Rattle.journal.specs.Machine.{Ran, Ready, Kept};
+ghost use Rattle.journal.specs.Run.{store, _▸_};
+ghost use Rattle.hpsys_volts.specs.HpsysVolts.{sxModeVolt, timing};
+ghost use Rattle.guard_supply.specs.Supply.{modeAt, highest, peakOf, raise, settle};
+use dvfs::HpsysDvfsMode;
+use dvfs::HpsysModeFound;
+use journal::Machine;
+use time::Hertz;
+
+// The number of the first mode on supply S; those below it are on D.
+const FIRST_S: usize = 2;
+
+// The mode of a clock, the highest where it has none.
+pub fn mode_at(f: Hertz) -> HpsysDvfsMode
+    ensures { λ r. ⌜ r ≡ modeAt (f .0) ⌝ }
+{
+    let HpsysModeFound::Mode(mode) = HpsysDvfsMode::from_hertz(f) else {
+        return HpsysDvfsMode::S1;
+    };
+    mode
+}
+
+fn highest(m: HpsysDvfsMode, n: HpsysDvfsMode) -> HpsysDvfsMode
+    ensures { λ r. ⌜ r ≡ highest m n ⌝ }
+{
+    if n.number() <= m.number() {
+        return m;
+    }
+    n
+}
+
+// The highest mode among the present clock's, D1 and the target's.
+pub fn peak(present: Hertz, target: Hertz) -> HpsysDvfsMode
+    ensures { λ r. ⌜ r ≡ peakOf (present .0) (target .0) ⌝ }
+{
+    let high = highest(mode_at(present), HpsysDvfsMode::D1);
+    highest(high, mode_at(target))
+}
+
+// Step 1: the volts of the peak, where the rail limit is below it.
+pub fn raise(m: Machine, journal: &mut [u32], peak: HpsysDvfsMode) -> Machine
+    requires { ⌜ Ready 5 m (now journal) ⌝ }
+    ensures { λ r. ⌜ Ran (raise peak) m r (now (journal .entry)) (now (journal .exit)) ⌝ }
+    ensures { λ r. ⌜ Kept 5 m r ⌝ }
+    ensures { λ r. ⌜ r .taken ≡ m .taken ⌝ }
+{
+    let head = m.head;
+    let rail = rail::rail_limit(head);
+    let limit = rail::limit(peak);
+    if limit.0 <= rail.0 {
+        return m;
+    }
+    if peak.number() < FIRST_S {
+        let m = hpsys_switch::switch_hcpu_dvfs_s2d_first(m, journal, peak);
+        return journal::delay_us(m, journal, 250);
+    }
+    hpsys_switch::switch_hcpu_dvfs_d2s_first(m, journal, peak)
+}
+
+fn settle_s(m: Machine, journal: &mut [u32], mode: HpsysDvfsMode) -> Machine
+    requires { ⌜ Ready 4 m (now journal) ⌝ }
+    ensures { λ r. ⌜ Ran (sxModeVolt mode ▸ timing mode ▸ store 12 0) m r (now (journal .entry)) (now (journal .exit)) ⌝ }
+    ensures { λ r. ⌜ Kept 4 m r ⌝ }
+    ensures { λ r. ⌜ r .taken ≡ m .taken ⌝ }
+{
+    let m = hpsys_volts::config_hcpu_sx_mode_volt(m, journal, mode);
+    let m = hpsys_volts::store_timing(m, journal, mode);
+    m.store(journal, 12, 0)
+}
+
+// Step 8: the volts, the timing and the supply of the target's mode.
+pub fn settle(m: Machine, journal: &mut [u32], mode: HpsysDvfsMode) -> Machine
+    requires { ⌜ Ready 4 m (now journal) ⌝ }
+    ensures { λ r. ⌜ Ran (settle mode) m r (now (journal .entry)) (now (journal .exit)) ⌝ }
+    ensures { λ r. ⌜ Kept 4 m r ⌝ }
+    ensures { λ r. ⌜ r .taken ≡ m .taken ⌝ }
+{
+    if mode.number() < FIRST_S {
+        let m = hpsys_switch::switch_hcpu_dvfs_s2d_first(m, journal, mode);
+        return hpsys_switch::switch_hcpu_dvfs_s2d_second(m, journal, mode);
+    }
+    settle_s(m, journal, mode)
+}

@@ -1,0 +1,4 @@
+pub mod Algebra
+pub mod Coded
+pub mod Still
+pub mod Requests

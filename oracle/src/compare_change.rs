@@ -1,0 +1,449 @@
+//! The guarded change of librikkovan.a against document 01, with demand 3 asked
+//! of every moment.
+
+use crate::change_calls::{Input, JOURNAL};
+use crate::change_inputs::{
+    CORES, LISTS, READY, answers, any_plan, few_fit, head, journal, plan, put_core, put_rails,
+    put_tasks, rails, target, targets, with_core, with_load,
+};
+use crate::compare::Extent;
+use crate::compare_lists;
+use crate::config_inputs::{accepted, few_plans, refused_plans};
+use crate::heads::{
+    Buffer, DIVIDERS, LONGEST, buffer, damaged, dlls, few_heads, garbage, put_flags, put_register,
+    with,
+};
+use crate::plans::{self, Record, STAGES, of_length};
+use crate::tally::{Groups, Tally};
+use crate::task_inputs::any_past;
+use sifli::call::MOST_ANSWERS;
+use sifli::change::ANSWERS;
+use sifli::claim::planned;
+use sifli::head::{BUFFER, Head, MOST_TASKS, at};
+use sifli::plan::{DEFAULT, LENGTH};
+use sifli::random::Random;
+use std::time::{Duration, Instant};
+
+const RANDOM: u64 = 1_000_000;
+const RANDOM_QUICK: u64 = 400_000;
+const DAMAGED: u64 = 200_000;
+const DAMAGED_QUICK: u64 = 20_000;
+
+/// Plans from which those of random calls are drawn.
+pub const ACCEPTED: usize = 4000;
+
+/// Random changes and lists of calls share the seconds of a longer run.
+pub const SHARES: u32 = 2;
+
+/// Compares all groups, then the lists of calls, and gives their sum.
+pub fn run(extent: Extent) -> Tally {
+    let quick = extent.quick;
+    let mut groups = Groups::ruled("change");
+    groups.group("modes and rails", |tally| modes_and_rails(tally, quick));
+    groups.group("every rail", |tally| every_rail(tally, quick));
+    groups.group("flash selects", |tally| flash_selects(tally, quick));
+    groups.group("every DLL1", every_dll1);
+    groups.group("dividers", |tally| dividers(tally, quick));
+    groups.group("answers", |tally| every_answer(tally, quick));
+    groups.group("ready flags and LPSYS", |tally| {
+        flags_and_lpsys(tally, quick)
+    });
+    groups.group("loads", |tally| loads(tally, quick));
+    groups.group("plan bytes", |tally| plan_bytes(tally, quick));
+    groups.group("plan lengths 0 to 40", plan_lengths);
+    groups.group("order of refusals", order_of_refusals);
+    groups.group("lengths", lengths);
+    groups.group("one byte changed", |tally| one_byte_changed(tally, quick));
+    groups.group("damaged heads", |tally| damaged_heads(tally, quick));
+    groups.group("random changes", |tally| random_changes(tally, extent));
+    let mut sum = groups.finish(&ANSWERS);
+    sum.add(&compare_lists::run(extent));
+    sum
+}
+
+/// A change with a journal of 128 words.
+fn on(tally: &mut Tally, head: &[u8], plan: &[u8], answers: &[u16]) {
+    let input = Input {
+        plan,
+        head,
+        journal: JOURNAL,
+        answers,
+    };
+    input.compare(tally);
+}
+
+/// Every present HCLK on every rails with every target, and so every pair of
+/// modes; in the full run with DLL1 ready, ready later, not ready, no answers.
+fn modes_and_rails(tally: &mut Tally, quick: bool) {
+    let lists = if quick { &LISTS[..1] } else { &LISTS[..] };
+    for core in CORES {
+        let mut head = with_core(core);
+        for rails in rails() {
+            put_rails(&mut head, rails);
+            let buffer = buffer(&head, 0);
+            for plan in targets() {
+                for answers in lists {
+                    on(tally, &buffer, &plan, answers);
+                }
+            }
+        }
+    }
+}
+
+/// All values of the active rails, with the others low and high.
+fn every_rail(tally: &mut Tally, quick: bool) {
+    let targets = targets();
+    let targets = targets.iter().step_by(if quick { 4 } else { 1 });
+    for core in [3, 6, 13, 17].map(|at| CORES[at]) {
+        for others in [0, 15] {
+            for supply in 0..2 {
+                let mut head = with_core(core);
+                head.registers[13..=16].fill(others);
+                for rail in 0..=255 {
+                    put_rails(&mut head, (supply, rail >> 4, rail & 15));
+                    for plan in targets.clone() {
+                        on(tally, &buffer(&head, 0), plan, &[1]);
+                    }
+                }
+            }
+        }
+    }
+}
+
+/// Every pair of flash selects with both DLLs on and off, halved or not, and the
+/// hpbg flags; from each core select, with DLL1 planned and not.
+fn flash_selects(tally: &mut Tally, quick: bool) {
+    let lists = if quick { &LISTS[1..3] } else { &LISTS[..] };
+    let plans = [
+        (1, 1, [0; 3]),
+        (0, 2, [0; 3]),
+        (1, 1, [1, 1, 3]),
+        (3, 1, [1, 0, 0]),
+        (3, 1, [1, 0, 9]),
+    ]
+    .map(plan);
+    for setting in 0..1 << 9 {
+        let bits = |shift: u32, mask: u32| setting >> shift & mask;
+        for dll1 in [[1, 0, 9], [1, 1, 9], [0, 0, 9], [0, 1, 9]] {
+            for core in [0, 1, 3] {
+                let mut head = with_core((core, 1, [1, 0, 9]));
+                put_core(&mut head, (core, 1, dll1));
+                head.registers[4] = bits(8, 1) << 16 | 0x0B;
+                head.registers[5] = bits(0, 3) << 8 | bits(2, 3);
+                head.registers[11] = bits(4, 1) << 8 | bits(5, 1);
+                (head.registers[10], head.registers[6]) = (bits(6, 1), bits(7, 1));
+                for plan in &plans {
+                    for answers in lists {
+                        on(tally, &buffer(&head, 0), plan, answers);
+                    }
+                }
+            }
+        }
+    }
+}
+
+/// Every DLL1 of the head with every one of the plan, from HXT48 and from DLL1,
+/// to HXT48 and to DLL1.
+fn every_dll1(tally: &mut Tally) {
+    for [on_off, half, stage] in dlls(&STAGES) {
+        for core in [1, 3] {
+            let head = buffer(&with_core((core, 2, [on_off, half, stage])), 0);
+            for [present, stage, half] in plans::dlls(&STAGES) {
+                for select in [1, 3] {
+                    let plan = plan((select, 2, [present, half, stage]));
+                    on(tally, &head, &plan, &[0, 1]);
+                }
+            }
+        }
+    }
+}
+
+/// Every hdiv of the head with some of the plan, in the full run with all.
+fn dividers(tally: &mut Tally, quick: bool) {
+    let every: Vec<u8> = (0..=255).collect();
+    let planned = if quick { &DIVIDERS[..] } else { &every };
+    for (select, dll1) in [(0, [0; 3]), (1, [0; 3]), (3, [1, 0, 9])] {
+        for hdiv in 0..=255 {
+            let head = buffer(&with_core((select, hdiv, dll1)), 0);
+            for &other in planned {
+                let core = 3 - select;
+                let core = if core == 2 { 1 } else { core };
+                let dll1 = if core == 3 { [1, 0, 9] } else { [0; 3] };
+                on(tally, &head, &plan((core, other, dll1)), &[1]);
+            }
+        }
+    }
+}
+
+/// None; all lists of up to six ready or not; one ready at each place of up to 40
+/// and of the most, quick at every 97th.
+fn every_answer(tally: &mut Tally, quick: bool) {
+    let heads: Vec<Buffer> = few_fit().iter().map(|head| buffer(head, 0)).collect();
+    let plans = [DEFAULT, plan((1, 1, [1, 0, 3])), plan((1, 1, [0; 3]))];
+    let all = |tally: &mut Tally, answers: &[u16]| {
+        for head in &heads {
+            for plan in &plans {
+                on(tally, head, plan, answers);
+            }
+        }
+    };
+    for length in 0..=6 {
+        for ready in 0..1 << length {
+            let bit = |index: usize| (ready >> index & 1) * READY[index % READY.len()];
+            let answers: Vec<u16> = (0..length).map(bit).collect();
+            all(tally, &answers);
+        }
+    }
+    for length in 7..=40 {
+        for place in 0..=length {
+            let mut answers = vec![0; length];
+            if let Some(answer) = answers.get_mut(place) {
+                *answer = READY[place % READY.len()];
+            }
+            all(tally, &answers);
+        }
+    }
+    let mut answers = vec![0; MOST_ANSWERS];
+    for length in [255, 256, 257, MOST_ANSWERS - 1, MOST_ANSWERS] {
+        all(tally, &answers[..length]);
+    }
+    for place in (0..MOST_ANSWERS).step_by(if quick { 97 } else { 1 }) {
+        answers[place] = 0x0100;
+        on(
+            tally,
+            &heads[place % heads.len()],
+            &plans[place % 2],
+            &answers,
+        );
+        answers[place] = 0;
+    }
+}
+
+/// Ready flags, LPSYS select and supply, some hdiv1, in the full run all; each
+/// core select, with plans from each source.
+fn flags_and_lpsys(tally: &mut Tally, quick: bool) {
+    let every: Vec<u8> = (0..=255).collect();
+    let hdivs = if quick { &DIVIDERS[..5] } else { &every };
+    let plans = [(0, 1, [0; 3]), (1, 1, [0; 3]), (3, 1, [1, 0, 9])].map(plan);
+    for core in [
+        (0, 1, [0; 3]),
+        (1, 1, [0; 3]),
+        (2, 1, [0; 3]),
+        (3, 1, [1, 0, 9]),
+    ] {
+        for flags in 0..8 {
+            for select in 0..4 {
+                let mut head = buffer(&with_core(core), 0);
+                put_flags(&mut head, flags);
+                (head[at::c(25)], head[at::c(28)]) = (select & 1, select >> 1);
+                for &hdiv in hdivs {
+                    head[at::a(26)] = hdiv;
+                    for plan in &plans {
+                        on(tally, &head, plan, &[1]);
+                    }
+                }
+            }
+        }
+    }
+}
+
+/// Tasks whose load is at, one below and one above the target's HCLK and the
+/// present one's, by each number of tasks.
+fn loads(tally: &mut Tally, quick: bool) {
+    let targets = targets();
+    for head in few_fit() {
+        let present = sifli::readings::hclk(&head).expect("a fit head");
+        for plan in targets.iter().step_by(if quick { 3 } else { 1 }) {
+            for hclk in [present, planned(plan)].map(u64::from) {
+                for count in 1..=MOST_TASKS {
+                    for load in [hclk - 1, hclk, hclk + 1, 2 * hclk] {
+                        let head = with_load(head.clone(), count, load, count % 2 == 0);
+                        on(tally, &buffer(&head, 0xEE), plan, &[1]);
+                    }
+                }
+            }
+        }
+    }
+}
+
+/// Some plans with each byte at all values; quick on one head.
+fn plan_bytes(tally: &mut Tally, quick: bool) {
+    let mut heads: Vec<Buffer> = few_fit().iter().map(|head| buffer(head, 0)).collect();
+    heads.truncate(if quick { 1 } else { 4 });
+    for good in few_plans() {
+        for index in 0..LENGTH {
+            for byte in 0..=255 {
+                let mut plan = good;
+                plan[index] = byte;
+                for head in &heads {
+                    on(tally, head, &plan, &[1]);
+                }
+            }
+        }
+    }
+}
+
+/// Plans of every length, on a head that is fit and on one that is not.
+fn plan_lengths(tally: &mut Tally) {
+    let heads = [with_core(CORES[6]), Head::default()];
+    for length in 0..=plans::LONGEST {
+        for plan in of_length(length) {
+            for head in &heads {
+                on(tally, &buffer(head, 0), &plan, &[1]);
+            }
+        }
+    }
+}
+
+/// Every choice among a short journal, too many answers, three faults of the
+/// head's record, four ways not to be fit, an oscillator that is not ready, a
+/// load that is too high and no answer that is ready, each with a plan of every
+/// refusal and with one that is accepted.
+fn order_of_refusals(tally: &mut Tally) {
+    let mut plans: Vec<Vec<u8>> = vec![DEFAULT.to_vec(), plan((0, 1, [0; 3])).to_vec()];
+    plans.extend(refused_plans());
+    // On DLL1, so that 37 and 38 stand apart; LPSYS on HRC48.
+    let mut good = with_core(CORES[17]);
+    good.registers[11] = 0x000101;
+    for faults in 0..1 << 12 {
+        let has = |fault: u32| faults >> fault & 1 == 1;
+        let mut head = good.clone();
+        if has(5) {
+            head.registers[14] = 12;
+        }
+        if has(6) {
+            head.registers[5] = 0x000200;
+        }
+        if has(7) {
+            head.registers[26] = 0x010000;
+        }
+        head.hrc48_ready = !has(8);
+        head.hxt48_ready = !has(9);
+        if has(10) {
+            head = with_load(head, 3, 240_000_001, false);
+        }
+        let mut bytes = buffer(&head, 0).to_vec();
+        if has(3) {
+            bytes[at::VERSION] = 0;
+        }
+        if has(4) {
+            bytes[at::a(34)] = 1;
+        }
+        if has(2) {
+            bytes.push(0);
+        }
+        let length = if has(1) { MOST_ANSWERS + 1 } else { 2 };
+        let answers = vec![u16::from(!has(11)); length];
+        let journal = if has(0) { JOURNAL - 1 } else { JOURNAL };
+        for plan in &plans {
+            let input = Input {
+                plan,
+                head: &bytes,
+                journal,
+                answers: &answers,
+            };
+            input.compare(tally);
+        }
+    }
+}
+
+/// Journals, answers, buffers and plans of lengths around their limits, and past
+/// 16 bits.
+fn lengths(tally: &mut Tally) {
+    let mut bytes = buffer(&with_core(CORES[6]), 0).to_vec();
+    bytes.resize(LONGEST, 0);
+    let mut slice = DEFAULT.to_vec();
+    slice.push(0);
+    for journal in [0, 1, 20, 64, 127, 128, 129, 200, 256, 65_536, 65_600] {
+        for answers in [0, 2, MOST_ANSWERS, MOST_ANSWERS + 1, 65_536, 65_538] {
+            let answers = vec![1; answers];
+            for head in [0, 110, 254, BUFFER, 256].map(|length| &bytes[..length]) {
+                for plan in [0, 19, LENGTH, 21].map(|length| &slice[..length]) {
+                    let input = Input {
+                        plan,
+                        head,
+                        journal,
+                        answers: &answers,
+                    };
+                    input.compare(tally);
+                }
+            }
+        }
+    }
+}
+
+/// Every byte of some heads at every value; quick of one.
+fn one_byte_changed(tally: &mut Tally, quick: bool) {
+    let with_tasks = |head: Head| with_load(head, 5, 20_000_000, false);
+    let mut heads: Vec<Buffer> = few_fit()
+        .into_iter()
+        .rev()
+        .map(|head| buffer(&with_tasks(head), 0))
+        .collect();
+    heads.extend(few_heads());
+    heads.truncate(if quick { 1 } else { 7 });
+    for good in &heads {
+        for index in 0..BUFFER {
+            for byte in 0..=255 {
+                on(tally, &with(*good, &[(index, byte)]), &DEFAULT, &[0, 1]);
+            }
+        }
+    }
+}
+
+/// Random heads with one to three bytes replaced, fit ones too, and any bytes.
+fn damaged_heads(tally: &mut Tally, quick: bool) {
+    let mut random = Random::new(0xDA3D);
+    let accepted = accepted(&mut random, ACCEPTED);
+    let number = if quick { DAMAGED_QUICK } else { DAMAGED };
+    for turn in 0..number {
+        let bytes = match turn % 3 {
+            0 => damaged(&mut random).to_vec(),
+            1 => garbage(&mut random),
+            _ => {
+                let head = head(&mut random);
+                let mut buffer = any_past(&mut random, &head);
+                let number = 1 + random.below(34);
+                put_register(&mut buffer, number, [(); 3].map(|()| random.up_to(3)));
+                buffer.to_vec()
+            }
+        };
+        random_change(tally, &mut random, &bytes, &accepted);
+    }
+}
+
+/// Random heads; in a longer run for their share of the seconds.
+fn random_changes(tally: &mut Tally, extent: Extent) {
+    let mut random = Random::new(0xC4A6);
+    let accepted = accepted(&mut random, ACCEPTED);
+    let number = if extent.quick { RANDOM_QUICK } else { RANDOM };
+    let least = Duration::from_secs(extent.seconds) / SHARES;
+    let began = Instant::now();
+    while tally.compared < number || began.elapsed() < least {
+        for _ in 0..1000 {
+            let mut head = head(&mut random);
+            let plan = any_plan(&mut random, &accepted);
+            put_tasks(&mut random, &mut head, target(&plan));
+            let bytes = any_past(&mut random, &head);
+            given(tally, &mut random, &bytes, &plan);
+        }
+    }
+}
+
+/// A random plan, answers and length of the journal.
+fn random_change(tally: &mut Tally, random: &mut Random, head: &[u8], accepted: &[Record]) {
+    let plan = any_plan(random, accepted);
+    given(tally, random, head, &plan);
+}
+
+fn given(tally: &mut Tally, random: &mut Random, head: &[u8], plan: &[u8]) {
+    let journal = journal(random);
+    let answers = answers(random);
+    let input = Input {
+        plan,
+        head,
+        journal,
+        answers: &answers,
+    };
+    input.compare(tally);
+}
