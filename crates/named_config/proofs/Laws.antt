@@ -1,4 +1,4 @@
--- What each call of rcc/clock_config.rs leaves: its entries lie in the journal, and its clocks are 15. Assumes nothing.
+-- What each call leaves: its entries lie in the journal, and its clocks are 15. Assumes nothing.
 use Prim.Native.Nat.{ℕ, _-_, _≤_}
 use mathlib.Core.Path.{_≡_, refl}
 use mathlib.Core.Bool.{Bool, true, false, cond}
@@ -15,16 +15,18 @@ use Rattle.head_clocks.specs.Clocks.{clocksOf}
 use Rattle.clock_switch.specs.Switch.{toPlan}
 use Rattle.clock_init.specs.Init.{init}
 use Rattle.call_clocks.specs.Clocks.{withAudioOf}
+use Rattle.guard.specs.Guard.{changeCall}
 use Rattle.clock_config.specs.Calls.{calibration, headAfter, initCall, initClocks, reconfigureCall, reconfigureClocks}
 use Rattle.named_config.specs.declared.Call.{Call}
-use Rattle.named_config.specs.declared.Call.the-variants.{Calibrate, Init, Reconfigure}
+use Rattle.named_config.specs.declared.Call.the-variants.{Calibrate, Init, Reconfigure, Change}
 use Rattle.named_config.specs.Calls.{resultOf, clocksAfter}
 
 result-within : (call : Call) (pb b j a : List ℕ) → resultOf call pb b j a .entries ≤ length (resultOf call pb b j a .journal)
-unfolding calibration initCall reconfigureCall
+unfolding calibration initCall reconfigureCall changeCall
 result-within Calibrate pb b j a = performed-within _ _ _ b j
 result-within Init pb b j a = performed-within _ _ _ b j
 result-within Reconfigure pb b j a = performed-within _ _ _ b j
+result-within Change pb b j a = performed-within _ _ _ b j
 
 -- the entries of a call lie in the journal that it leaves
 pub entries-within : (call : Call) (pb b j a b' j' : List ℕ) (r : Answer) → Answers (resultOf call pb b j a) r b' j' → r .entries ≤ length j'
@@ -54,3 +56,4 @@ clocks-count Init former pb b j a e =
 clocks-count Reconfigure former pb b j a e =
     let after = headAfter (toPlan (planOf pb) a) b in
     either-count (eqb (reconfigureCall pb b j a .refusal) 0) (withAudioOf former (clocksOf after)) former (audio-15 former after e) e
+clocks-count Change former pb b j a e = e

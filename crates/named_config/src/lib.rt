@@ -1,10 +1,11 @@
-// The calls of rcc/clock_config.rs by name: what each is lent, and how it runs.
+// The calls of rcc/clock_config.rs and the guarded change by name: what each is lent, and how it runs.
 ghost use mathlib.Core.Path.{_≡_};
 ghost use Rattle.call.specs.Call.{Answers};
 ghost use Rattle.named_config.specs.Calls.{
   NamedIs,
   lentPlan,
   takesClocks,
+  leavesClocks,
   resultOf,
   clocksAfter,
 };
@@ -14,6 +15,7 @@ pub enum Call {
     Calibrate,
     Init,
     Reconfigure,
+    Change,
 }
 
 pub enum Named {
@@ -33,6 +35,9 @@ pub fn find(name: &[u8]) -> Named
     if check::same(name, b"reconfigure") {
         return Named::Call(Call::Reconfigure);
     }
+    if check::same(name, b"change") {
+        return Named::Call(Call::Change);
+    }
     Named::Unknown
 }
 
@@ -44,6 +49,7 @@ impl Call {
             Call::Calibrate => false,
             Call::Init => true,
             Call::Reconfigure => true,
+            Call::Change => true,
         }
     }
 
@@ -54,6 +60,18 @@ impl Call {
             Call::Calibrate => false,
             Call::Init => false,
             Call::Reconfigure => true,
+            Call::Change => false,
+        }
+    }
+
+    pub fn leaves_clocks(self) -> bool
+        ensures { λ r. ⌜ r ≡ leavesClocks self ⌝ }
+    {
+        match self {
+            Call::Calibrate => false,
+            Call::Init => true,
+            Call::Reconfigure => true,
+            Call::Change => false,
         }
     }
 
@@ -75,6 +93,7 @@ impl Call {
             Call::Reconfigure => {
                 clock_config::reconfigure_sysclk(buffer, plan, clocks, journal, answers)
             }
+            Call::Change => guard::change(buffer, plan, journal, answers),
         }
     }
 }

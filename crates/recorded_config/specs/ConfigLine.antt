@@ -1,4 +1,4 @@
--- The line that records a call of rcc/clock_config.rs. Assumes nothing.
+-- The line that records a call of rcc/clock_config.rs or a guarded change. Assumes nothing.
 use Prim.Native.Nat.{ℕ}
 use mathlib.Core.Path.{_≡_}
 use mathlib.Core.Bool.{Bool, true, false}
@@ -6,7 +6,7 @@ use mathlib.Core.List.{List, [], _++_}
 use lib.ListN.{replicate}
 use Rattle.answered.specs.Left.{unused, joined, bytes, words, answersText, resultText}
 use Rattle.named_config.specs.declared.Call.{Call}
-use Rattle.named_config.specs.Calls.{nameOf, lentPlan, takesClocks, resultOf, clocksAfter}
+use Rattle.named_config.specs.Calls.{nameOf, lentPlan, takesClocks, leavesClocks, resultOf, clocksAfter}
 
 -- the clocks of a call that has some
 abbrev pub clocksText : Bool → List ℕ → List ℕ
@@ -23,7 +23,7 @@ abbrev pub lineOf : Call → List ℕ → List ℕ → List ℕ → List ℕ →
 lineOf call former pb b a =
     givenText call (nameOf call) former pb b a ++
     (resultText (resultOf call pb b (replicate 128 unused) (joined a)) ++
-    clocksText (lentPlan call) (clocksAfter call former pb b (replicate 128 unused) (joined a)))
+    clocksText (leavesClocks call) (clocksAfter call former pb b (replicate 128 unused) (joined a)))
 
 -- a line is that of some call, with what the call leaves by its definition
 pub record Recorded (line : List ℕ) : Type 0 where

@@ -1,4 +1,4 @@
-// Records of a call of rcc/clock_config.rs: its name, the plan and the former clocks where the call
+// Records of a call of rcc/clock_config.rs or of the guarded change: its name, the plan and the former clocks where the call
 // takes them, the head's buffer and the answers; then what it left, and the clocks where it leaves
 // some. As in `recorded`, the whole line is put together anew, so a line that was read wrongly
 // differs.
@@ -78,7 +78,7 @@ fn run_line(
     let mut journal = [left::UNUSED; 128];
     let answer = call.run(plan, &mut clocks, buffer, &mut journal, words);
     let left = left::put_left(answer, buffer, &journal, text, given);
-    let end = put_clocks(call.is_lent_plan(), &clocks, text, left);
+    let end = put_clocks(call.leaves_clocks(), &clocks, text, left);
     left::compare(line, &journal, answer.entries, text, given, end)
 }
 

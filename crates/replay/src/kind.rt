@@ -10,6 +10,7 @@ pub enum Kind {
     Lpsys,
     Config,
     Tasks,
+    Change,
 }
 
 impl Kind {
@@ -31,6 +32,9 @@ impl Kind {
             Kind::Tasks => {
                 io::write_all(STDOUT_FILENO, b"tasks: ");
             }
+            Kind::Change => {
+                io::write_all(STDOUT_FILENO, b"change: ");
+            }
         }
     }
 
@@ -44,6 +48,7 @@ impl Kind {
             Kind::Lpsys => recorded::call_line(line, text),
             Kind::Config => recorded_config::config_line(line, text),
             Kind::Tasks => recorded_tasks::task_line(line, text),
+            Kind::Change => recorded_config::config_line(line, text),
         }
     }
 }

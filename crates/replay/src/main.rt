@@ -1,5 +1,5 @@
-// Replays recorded answers: those of the original Rust and, of load check, booking and release, those
-// of document 01. Each file of records has a line for each call: what it was given and what it
+// Replays recorded answers: those of the original Rust and, of load check, booking, release and the
+// guarded change, those of document 01. Each file of records has a line for each call: what it was given and what it
 // answered (crates `recorded`, `recorded_config` and `recorded_tasks`). Our answer to the same is
 // compared with the recorded one, and of each file the program says how many lines differ.
 mod files;
@@ -15,4 +15,5 @@ fn main() {
     files::replay(Kind::Lpsys, b"lpsys.txt");
     files::replay(Kind::Config, b"config.txt");
     files::replay(Kind::Tasks, b"tasks.txt");
+    files::replay(Kind::Change, b"change.txt");
 }

@@ -30,8 +30,17 @@ same-requires-3 c κs = search needs
 returns-3 : tie.Need-returns-3
 returns-3 c = c .before .same3 .ensures .0 (c .if3 .taken)
 
+slice-aggregate-same-4 : tie.Need-slice-aggregate-same-4
+slice-aggregate-same-4 c = search needs
+
+same-requires-4 : tie.Need-same-requires-4
+same-requires-4 c κs = search needs
+
 returns-4 : tie.Need-returns-4
-returns-4 c = search needs
+returns-4 c = c .before .same4 .ensures .0 (c .if4 .taken)
+
+returns-5 : tie.Need-returns-5
+returns-5 c = search needs
 
 pub find-spec : {M : Type 1} → statement M
 find-spec =
@@ -46,4 +55,7 @@ find-spec =
     slice-aggregate-same-3
     same-requires-3
     returns-3
-    returns-4)
+    slice-aggregate-same-4
+    same-requires-4
+    returns-4
+    returns-5)

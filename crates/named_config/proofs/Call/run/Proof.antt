@@ -22,6 +22,12 @@ enum-told-3 c = search needs
 reconfigure-sysclk-requires : tie.Need-reconfigure-sysclk-requires
 reconfigure-sysclk-requires c κs = search needs
 
+enum-told-4 : tie.Need-enum-told-4
+enum-told-4 c = search needs
+
+change-requires : tie.Need-change-requires
+change-requires c κs = search needs
+
 same-length : tie.Need-same-length
 same-length c = search needs
 
@@ -49,6 +55,15 @@ same-length-6 c = search needs
 returns-3 : tie.Need-returns-3
 returns-3 c = rw (c .before .before .before .before .before .before .before .before .enum-told3 .given .1) (c .before .before .before .before .reconfigure-sysclk .ensures)
 
+same-length-7 : tie.Need-same-length-7
+same-length-7 c = search needs
+
+same-length-8 : tie.Need-same-length-8
+same-length-8 c = search needs
+
+returns-4 : tie.Need-returns-4
+returns-4 c = rw (c .before .before .before .before .before .before .before .enum-told4 .given .1) (c .before .before .before .before .change .ensures, refl)
+
 pub run-spec : {M : Type 1} → statement M
 run-spec =
     tie.close
@@ -59,6 +74,8 @@ run-spec =
     init-requires
     enum-told-3
     reconfigure-sysclk-requires
+    enum-told-4
+    change-requires
     same-length
     same-length-2
     returns
@@ -67,4 +84,7 @@ run-spec =
     returns-2
     same-length-5
     same-length-6
-    returns-3)
+    returns-3
+    same-length-7
+    same-length-8
+    returns-4)

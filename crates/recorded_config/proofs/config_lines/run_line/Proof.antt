@@ -28,8 +28,8 @@ slice-aggregate-put-left c = search needs
 put-left-requires : tie.Need-put-left-requires
 put-left-requires c κs = (omega arith, entries-within (c .before .before .before .before .before .before .before .before .before .before .before .before .before .before .before .before .before .before .before .before .before .before .before .args .call) _ _ _ _ _ _ _ (c .before .before .before .before .before .before .run .ensures .0))
 
-is-lent-plan-requires : tie.Need-is-lent-plan-requires
-is-lent-plan-requires c κs = search needs
+leaves-clocks-requires : tie.Need-leaves-clocks-requires
+leaves-clocks-requires c κs = search needs
 
 slice-aggregate-put-clocks : tie.Need-slice-aggregate-put-clocks
 slice-aggregate-put-clocks c =
@@ -58,10 +58,10 @@ returns c =
     let front = c .before .before .before .before .before .before .before .before .before .before .before .before .before .before .before .before .before .before .before .before .before .before .before .before .put-given in
     let run = c .before .before .before .before .before .before .before .before .before .before .before .before .before .before .before .before .before .before .run in
     let left = c .before .before .before .before .before .before .before .before .before .before .before .put-left in
-    let lent = c .before .before .before .before .before .before .before .before .is-lent-plan in
+    let has = c .before .before .before .before .before .before .before .before .leaves-clocks in
     let clocks = c .before .before .before .before .before .put-clocks in
     let given = givenText (args .call) (args .name .now) (args .former) (args .plan .now) (args .buffer .now) (args .answers .now) in
-    let line = line-is (args .call) (args .former) (args .plan .now) (args .buffer .now) (args .answers .now) (args .name .now) (args .words .now) _ _ _ _ (run .result) (pre .0) (pre .1) (lent .ensures) (run .ensures .0) (run .ensures .1) in
+    let line = line-is (args .call) (args .former) (args .plan .now) (args .buffer .now) (args .answers .now) (args .name .now) (args .words .now) _ _ _ _ (run .result) (pre .0) (pre .1) (has .ensures) (run .ensures .0) (run .ensures .1) in
     let same = clocks .kept .1 .1 .0 ∙ left .kept .1 .1 .1 .0 in
     (rw (same, front .kept .1 .1 .1 .1 .1 .1 .0) at (c .compare .ensures .0), λ e. same-line {given = given} (front .ensures) (puts-then (left .ensures) (clocks .ensures) (left .kept .1 .1 .1 .0)) (c .compare .ensures .1 e) (front .kept .1 .1 .1 .1 .1 .1 .0) same ∙ line)
 
@@ -75,7 +75,7 @@ run-line-spec =
     run-requires
     slice-aggregate-put-left
     put-left-requires
-    is-lent-plan-requires
+    leaves-clocks-requires
     slice-aggregate-put-clocks
     put-clocks-requires
     slice-aggregate-compare
