@@ -18,7 +18,7 @@ PLANS = $(sort $(wildcard examples/plans/*.plan))
 TASKS = $(sort $(wildcard examples/tasks/*.tasks))
 
 .DELETE_ON_ERROR:
-.PHONY: help lib run test test-c oracle oracle-library compare compare-quick compare-plans compare-heads record bench plans tasks install clean
+.PHONY: help lib run test test-c oracle oracle-library compare compare-quick compare-plans compare-heads record bench plans tasks heads install clean
 
 help:
 	@echo 'make run            prove the library, then check the example plans and tasks through it'
@@ -29,7 +29,7 @@ help:
 	@echo 'make compare        compare the library with the Rust (compare-quick: a part of it)'
 	@echo 'make record         write crates/replay/data anew from the Rust'
 	@echo 'make bench          measure the library and the Rust'
-	@echo 'make plans          write examples/plans anew (make tasks: examples/tasks)'
+	@echo 'make plans          write examples/plans anew (make tasks, make heads: the others)'
 	@echo 'make clean          remove what was built'
 
 lib: $(LIBRARY)
@@ -41,9 +41,16 @@ build/daemon: examples/daemon.c include/rikkovan.h $(LIBRARY)
 	@mkdir -p build
 	$(CC) -std=c99 $(STRICT) $(CFLAGS) -Iinclude -o $@ examples/daemon.c $(LIBRARY)
 
+target/bin/moments: $(SOURCES)
+	$(RT) check moments
+
 # Some of the files are refused on purpose, and the daemon's status is then 1.
-run: build/daemon
+run: build/daemon target/bin/moments
 	@build/daemon $(PLANS) $(TASKS:%=--tasks %) || test $$? -eq 1
+	@echo 'a head at 48 MHz on D taken to 240 MHz:'
+	@target/bin/moments examples/heads/d48.head examples/plans/default.plan examples/heads/second-poll.answers
+	@echo 'a head at 240 MHz with tasks that are 110 percent of a slower plan:'
+	@target/bin/moments examples/heads/s240-tasks.head examples/plans/dll1-144.plan
 
 test:
 	@tools/test.sh
@@ -81,6 +88,9 @@ plans:
 
 tasks:
 	tools/make-tasks.sh
+
+heads:
+	tools/make-heads.sh
 
 install: $(LIBRARY)
 	install -d '$(DESTDIR)$(PREFIX)/include' '$(DESTDIR)$(PREFIX)/lib/pkgconfig'

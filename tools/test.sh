@@ -82,6 +82,7 @@ stage 'rt ci' rt_ci
 stage 'library' library
 stage 'tests from C' part test-c
 stage 'tests of lpset' tests/lpset/run.sh
+stage 'tests of moments' tests/moments/run.sh
 compare
 say "all passed ($SECONDS s)"
 tail -n 1 "$log"

@@ -1,4 +1,5 @@
-// The calls of rcc/clock_config.rs and the guarded change by name: what each is lent, and how it runs.
+// The calls of rcc/clock_config.rs and the guarded change by name: what each is lent, and how it
+// runs.
 ghost use mathlib.Core.Path.{_≡_};
 ghost use Rattle.call.specs.Call.{Answers};
 ghost use Rattle.named_config.specs.Calls.{

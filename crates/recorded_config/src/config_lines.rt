@@ -1,7 +1,7 @@
-// Records of a call of rcc/clock_config.rs or of the guarded change: its name, the plan and the former clocks where the call
-// takes them, the head's buffer and the answers; then what it left, and the clocks where it leaves
-// some. As in `recorded`, the whole line is put together anew, so a line that was read wrongly
-// differs.
+// Records of a call of rcc/clock_config.rs or of the guarded change: its name, the plan and the former
+// clocks where the call takes them, the head's buffer and the answers; then what it left, and the
+// clocks where it leaves some. As in `recorded`, the whole line is put together anew, so a line that
+// was read wrongly differs.
 ghost use Prim.Native.Nat.{_≤_};
 ghost use mathlib.Core.Path.{_≡_};
 ghost use lib.ListN.{length};

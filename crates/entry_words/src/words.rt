@@ -1,0 +1,127 @@
+// What an entry does, in words.
+use crate::columns::Line;
+use crate::columns::put;
+use crate::columns::put_number;
+use digits::hex::six_digits;
+use moment::entry::number;
+use moment::entry::value;
+
+// The kind of a wait for DLL1.
+const DLL1: u32 = 3;
+
+// A word, and a number behind it.
+fn put_level(word: &[u8], level: u32, line: &mut Line, at: usize) -> usize {
+    let at = put(word, line, at);
+    put_number(level as u64, line, at)
+}
+
+fn put_core(select: u32, line: &mut Line, at: usize) -> usize {
+    match select {
+        0 => put(b"core HRC48", line, at),
+        1 => put(b"core HXT48", line, at),
+        2 => put(b"core DBL96", line, at),
+        _ => put(b"core DLL1", line, at),
+    }
+}
+
+fn put_dividers(value: u32, line: &mut Line, at: usize) -> usize {
+    let at = put_level(b"hdiv ", head::a(value), line, at);
+    let at = put_level(b", pdiv1 ", head::b(value), line, at);
+    put_level(b", pdiv2 ", head::c(value), line, at)
+}
+
+fn put_dll1(value: u32, line: &mut Line, at: usize) -> usize {
+    if head::a(value) == 0 {
+        return put(b"DLL1 off", line, at);
+    }
+    let at = put_level(b"DLL1 on, stage ", head::c(value), line, at);
+    if head::b(value) == 0 {
+        return at;
+    }
+    put(b", halved", line, at)
+}
+
+// Where a flash takes its clock.
+pub fn put_source(select: u32, line: &mut Line, at: usize) -> usize {
+    match select {
+        0 => put(b"peripheral", line, at),
+        1 => put(b"DLL1", line, at),
+        2 => put(b"DLL2", line, at),
+        _ => put(b"reserved", line, at),
+    }
+}
+
+fn put_flash(value: u32, line: &mut Line, at: usize) -> usize {
+    let at = put(b"flash ", line, at);
+    let at = put_source(head::b(value), line, at);
+    let at = put(b", ", line, at);
+    put_source(head::c(value), line, at)
+}
+
+fn put_bandgap(value: u32, line: &mut Line, at: usize) -> usize {
+    if head::c(value) == 0 {
+        return put(b"bandgap on", line, at);
+    }
+    put(b"bandgap and vddpsw on", line, at)
+}
+
+fn put_supply(value: u32, line: &mut Line, at: usize) -> usize {
+    if value == 0 {
+        return put(b"supply S", line, at);
+    }
+    put(b"supply D", line, at)
+}
+
+fn put_delay(cycles: u32, line: &mut Line, at: usize) -> usize {
+    let at = put_level(b"delay ", cycles, line, at);
+    put(b" cycles", line, at)
+}
+
+// What was waited for, and the answers that it took.
+fn put_wait(value: u32, line: &mut Line, at: usize) -> usize {
+    let at = put(b"wait ", line, at);
+    let at = put_awaited(head::a(value), line, at);
+    let at = put_level(b", ", value % 65536, line, at);
+    put(b" answers", line, at)
+}
+
+fn put_awaited(kind: u32, line: &mut Line, at: usize) -> usize {
+    if kind == DLL1 {
+        return put(b"DLL1", line, at);
+    }
+    put_level(b"kind ", kind, line, at)
+}
+
+// A store that has no word of its own.
+fn put_register(number: u32, value: u32, line: &mut Line, at: usize) -> usize {
+    let at = put_level(b"register ", number, line, at);
+    let at = put(b" ", line, at);
+    put(&six_digits(value), line, at)
+}
+
+// Of the registers that a guarded change stores.
+fn put_store(number: u32, value: u32, line: &mut Line, at: usize) -> usize {
+    match number {
+        1 => put_core(value, line, at),
+        2 => put_dividers(value, line, at),
+        3 => put_dll1(value, line, at),
+        5 => put_flash(value, line, at),
+        11 => put_bandgap(value, line, at),
+        12 => put_supply(value, line, at),
+        13 => put_level(b"buck ", value, line, at),
+        14 => put_level(b"ldo ", value, line, at),
+        15 => put_level(b"buck of D ", value, line, at),
+        16 => put_level(b"ldo of D ", value, line, at),
+        _ => put_register(number, value, line, at),
+    }
+}
+
+pub fn put_entry(entry: u32, line: &mut Line, at: usize) -> usize {
+    let number = number(entry);
+    let value = value(entry);
+    match number {
+        48 => put_delay(value, line, at),
+        49 => put_wait(value, line, at),
+        _ => put_store(number, value, line, at),
+    }
+}

@@ -1,0 +1,83 @@
+-- `moments::show` meets its contract. The loop's invariant: `i` is at most the number of entries, and the buffer holds a head. The measure
+-- is the rest of the entries. Assumes nothing.
+use Prim.Native.Nat.{_-_, _≤_}
+use mathlib.Core.Path.{_≡_}
+use native.Mathlib.Omega.{arith}
+use lib.ListN.{length}
+use borrow.Author.Needs.{needs}
+use Rattle.call.proofs.Ending.{call-encodable, call-bytes}
+use Rattle.moments.proofs.show.Statement.{statement}
+use Rattle.moments.proofs.show.Tie as tie
+
+abbrev Inv-loop : tie.InvT-loop
+Inv-loop buffer₀ entries i₀ buffer i = (i ≤ length entries) × ((length buffer ≡ length buffer₀) × (length buffer₀ ≡ 255))
+
+abbrev μ-loop : tie.MeasureT-loop
+μ-loop buffer₀ entries i₀ buffer i = length entries - i
+
+admit-head-requires : tie.Need-admit-head-requires Inv-loop μ-loop
+admit-head-requires c κs = search needs
+
+same-length : tie.Need-same-length Inv-loop μ-loop
+same-length c = search needs
+
+returns : tie.Need-returns Inv-loop μ-loop
+returns c = search needs
+
+heading-requires : tie.Need-heading-requires Inv-loop μ-loop
+heading-requires c κs = search needs
+
+first-requires : tie.Need-first-requires Inv-loop μ-loop
+first-requires c κs = call-encodable (c .before .before .before .admit-head .ensures) (c .before .if1 .left)
+
+loop-holds : tie.Need-loop-holds Inv-loop μ-loop
+loop-holds c = (omega arith, (search needs, call-bytes (c .before .before .before .before .admit-head .ensures) (c .before .before .if1 .left)))
+
+mul-entry : tie.Need-mul-entry Inv-loop μ-loop
+mul-entry c = search needs
+
+shared-slice-read-entry : tie.Need-shared-slice-read-entry Inv-loop μ-loop
+shared-slice-read-entry c = search needs
+
+store-requires : tie.Need-store-requires Inv-loop μ-loop
+store-requires c κs = search needs
+
+add-i : tie.Need-add-i Inv-loop μ-loop
+add-i c = search needs
+
+show-next-requires : tie.Need-show-next-requires Inv-loop μ-loop
+show-next-requires c κs = search needs
+
+loop-less : tie.Need-loop-less Inv-loop μ-loop
+loop-less c = search needs
+
+loop-again : tie.Need-loop-again Inv-loop μ-loop
+loop-again c = search needs
+
+same-length-2 : tie.Need-same-length-2 Inv-loop μ-loop
+same-length-2 c = search needs
+
+returns-2 : tie.Need-returns-2 Inv-loop μ-loop
+returns-2 c = search needs
+
+pub show-spec : {M : Type 1} → statement M
+show-spec =
+    tie.close
+    (tie.spec
+    Inv-loop
+    μ-loop
+    admit-head-requires
+    same-length
+    returns
+    heading-requires
+    first-requires
+    loop-holds
+    mul-entry
+    shared-slice-read-entry
+    store-requires
+    add-i
+    show-next-requires
+    loop-less
+    loop-again
+    same-length-2
+    returns-2)
