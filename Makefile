@@ -18,7 +18,7 @@ PLANS = $(sort $(wildcard examples/plans/*.plan))
 TASKS = $(sort $(wildcard examples/tasks/*.tasks))
 
 .DELETE_ON_ERROR:
-.PHONY: help lib run test test-c oracle oracle-library compare compare-quick compare-plans compare-heads record bench plans tasks heads install clean
+.PHONY: help lib run test test-c test-rust oracle oracle-library compare compare-quick compare-plans compare-heads record bench plans tasks heads install clean
 
 help:
 	@echo 'make run            prove the library, then check the example plans and tasks through it'
@@ -26,6 +26,7 @@ help:
 	@echo 'make lib            prove the library and write $(LIBRARY)'
 	@echo 'make install        install it, with its header (PREFIX=$(PREFIX), DESTDIR)'
 	@echo 'make test-c         test the library from C and C++'
+	@echo 'make test-rust      test the library from Rust, through bindings/rust'
 	@echo 'make compare        compare the library with the Rust (compare-quick: a part of it)'
 	@echo 'make record         write crates/replay/data anew from the Rust'
 	@echo 'make bench          measure the library and the Rust'
@@ -57,6 +58,9 @@ test:
 
 test-c: build/daemon
 	@CC='$(CC)' CXX='$(CXX)' tests/c/run.sh
+
+test-rust: $(LIBRARY)
+	cargo test -j1 --quiet --offline --manifest-path bindings/rust/Cargo.toml
 
 oracle-library:
 	$(BUILD_ORACLE) --lib
@@ -100,4 +104,4 @@ install: $(LIBRARY)
 		>'$(DESTDIR)$(PREFIX)/lib/pkgconfig/rikkovan.pc'
 
 clean:
-	rm -rf build target oracle/target
+	rm -rf build target bindings/rust/target oracle/target

@@ -1,6 +1,6 @@
 #!/usr/bin/env bash
-# The whole test, run by `make test`: proves every crate, then tests the proved library from C and
-# against the Rust. On success the last line is that of rt ci, 'N passed, 0 failed'.
+# The whole test, run by `make test`: proves every crate, then tests the proved library from C, from
+# Rust and against the Rust. On success the last line is that of rt ci, 'N passed, 0 failed'.
 set -euo pipefail
 cd "$(dirname "$0")/.."
 exec </dev/null
@@ -51,7 +51,9 @@ rt_ci() {
 
 sources=${SIFLI_SRC:-../shared/docs/src}
 
-can_compare() { [ -d "$sources/sifli-hal/src" ] && command -v cargo >/dev/null; }
+has_cargo() { command -v cargo >/dev/null; }
+
+can_compare() { [ -d "$sources/sifli-hal/src" ] && has_cargo; }
 
 # The archive, and beside it the part of the oracle that does not link it.
 library() {
@@ -59,6 +61,14 @@ library() {
         part oracle-library &
     fi
     part lib && wait
+}
+
+test_rust() {
+    if has_cargo; then
+        stage 'tests from Rust' part test-rust
+    else
+        say 'tests from Rust skipped: cargo is missing'
+    fi
 }
 
 compare() {
@@ -81,6 +91,7 @@ stage 'list of crates' every_crate_is_listed
 stage 'rt ci' rt_ci
 stage 'library' library
 stage 'tests from C' part test-c
+test_rust
 stage 'tests of lpset' tests/lpset/run.sh
 stage 'tests of moments' tests/moments/run.sh
 compare

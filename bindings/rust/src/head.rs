@@ -1,0 +1,162 @@
+//! The head record.
+
+use crate::bytes;
+use crate::clocks::{CLOCKS, Clocks, LPSYS_CLOCKS, LpsysClocks};
+use crate::numbered::numbered;
+use crate::refusal::Refusal;
+use crate::register::Register;
+use crate::task::Task;
+
+const BOOT_MODE: usize = 108;
+const WAKE_COUNT: usize = 109;
+const COUNT: usize = 110;
+const TASKS: usize = 111;
+
+/// The state of a detector head: its registers, its ready flags and its booked tasks.
+///
+/// It owns a buffer of 255 bytes with a record that the library accepts at the front. No call
+/// looks at the bytes past the record, but they are compared with `==`.
+///
+/// ```
+/// use rikkovan::{Head, Hertz, ReadyFlag, Refusal, Register};
+///
+/// let mut head = Head::new();
+/// head.set_ready(ReadyFlag::Hxt48, true);
+/// head.set_register(Register::Sysclk, 1)?;
+/// assert_eq!(head.clocks().hclk, Some(Hertz(48_000_000)));
+///
+/// assert_eq!(head.set_register(Register::Sysclk, 4), Err(Refusal::Code));
+/// assert_eq!(head.register(Register::Sysclk), 1);
+/// # Ok::<(), Refusal>(())
+/// ```
+#[derive(Debug, Clone, PartialEq, Eq)]
+pub struct Head {
+    pub(crate) bytes: [u8; Self::BYTES],
+}
+
+numbered! {
+    /// A ready flag of a head. Its number is the place of its byte.
+    ReadyFlag: u8 {
+        /// HXT48 is ready.
+        Hxt48 = 105,
+        /// HRC48 is ready.
+        Hrc48 = 106,
+        /// HXT48 is ready for LPSYS; no frequency depends on it.
+        LpsysHxt48 = 107,
+    }
+}
+
+impl Head {
+    /// The bytes of a head's buffer.
+    pub const BYTES: usize = 255;
+
+    /// Registers, flags, boot mode and wake count all 0, no task.
+    pub const fn new() -> Self {
+        let mut bytes = [0; Self::BYTES];
+        bytes[1] = 109;
+        bytes[2] = 1;
+        Self { bytes }
+    }
+
+    /// The head in a buffer, or refusal 1, 2 or 3.
+    pub fn from_bytes(buffer: &[u8]) -> Result<Self, Refusal> {
+        let bytes = buffer.try_into().map_err(|_| Refusal::Length)?;
+        Self { bytes }.tested()
+    }
+
+    /// The head's buffer.
+    pub const fn as_bytes(&self) -> &[u8; Self::BYTES] {
+        &self.bytes
+    }
+
+    /// What a register holds: a * 65,536 + b * 256 + c.
+    pub fn register(&self, register: Register) -> u32 {
+        let value = |value, &byte: &u8| value << 8 | u32::from(byte);
+        self.bytes[register.place()].iter().fold(0, value)
+    }
+
+    /// Puts a value into a register: a * 65,536 + b * 256 + c. Refusal 3 where it may not hold it.
+    pub fn set_register(&mut self, register: Register, value: u32) -> Result<(), Refusal> {
+        let [0, abc @ ..] = value.to_be_bytes() else {
+            return Err(Refusal::Code);
+        };
+        let mut head = self.clone();
+        head.bytes[register.place()].copy_from_slice(&abc);
+        *self = head.tested()?;
+        Ok(())
+    }
+
+    /// Whether a ready flag is 1.
+    pub const fn is_ready(&self, flag: ReadyFlag) -> bool {
+        self.bytes[flag.number() as usize] == 1
+    }
+
+    /// Sets a ready flag.
+    pub const fn set_ready(&mut self, flag: ReadyFlag, ready: bool) {
+        self.bytes[flag.number() as usize] = ready as u8;
+    }
+
+    /// The boot mode; 3 is a standby boot.
+    pub const fn boot_mode(&self) -> u8 {
+        self.bytes[BOOT_MODE]
+    }
+
+    /// Sets the boot mode.
+    pub const fn set_boot_mode(&mut self, mode: u8) {
+        self.bytes[BOOT_MODE] = mode;
+    }
+
+    /// How often the core of LPSYS was woken.
+    pub const fn wake_count(&self) -> u8 {
+        self.bytes[WAKE_COUNT]
+    }
+
+    /// Sets the wake count.
+    pub const fn set_wake_count(&mut self, count: u8) {
+        self.bytes[WAKE_COUNT] = count;
+    }
+
+    /// The booked tasks, in the order of their places.
+    pub fn tasks(&self) -> impl ExactSizeIterator<Item = Task> {
+        let (records, _) = self.task_bytes().as_chunks();
+        records.iter().copied().map(Task::from_record)
+    }
+
+    /// The load of the booked tasks, in cycles per second.
+    pub fn load(&self) -> u64 {
+        bytes::load_check(self.task_bytes()).load()
+    }
+
+    /// The 15 frequencies.
+    pub fn clocks(&self) -> Clocks {
+        let mut clocks = [0; CLOCKS];
+        let word = bytes::read_clocks(&self.bytes, &mut clocks);
+        debug_assert_eq!(word.refusal(), None);
+        clocks.into()
+    }
+
+    /// The six frequencies of the low-power system.
+    pub fn lpsys_clocks(&self) -> LpsysClocks {
+        let mut clocks = [0; LPSYS_CLOCKS];
+        let word = bytes::read_lpsys(&self.bytes, &mut clocks);
+        debug_assert_eq!(word.refusal(), None);
+        clocks.into()
+    }
+
+    fn task_bytes(&self) -> &[u8] {
+        let count = usize::from(self.bytes[COUNT]);
+        &self.bytes[TASKS..][..Task::BYTES * count]
+    }
+
+    /// The head, where the library accepts its record.
+    fn tested(self) -> Result<Self, Refusal> {
+        let word = bytes::read_lpsys(&self.bytes, &mut [0; LPSYS_CLOCKS]);
+        word.refusal().map_or(Ok(self), Err)
+    }
+}
+
+impl Default for Head {
+    fn default() -> Self {
+        Self::new()
+    }
+}

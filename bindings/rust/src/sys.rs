@@ -1,0 +1,134 @@
+//! What librikkovan.a exports, as `include/rikkovan.h` declares it.
+
+unsafe extern "C" {
+    pub fn rikkovan_plan_check(plan: *const u8, plan_len: usize) -> u64;
+
+    pub fn rikkovan_read_clocks(head: *const u8, head_len: usize, clocks: *mut u32) -> u64;
+    pub fn rikkovan_read_lpsys(head: *const u8, head_len: usize, lpsys: *mut u32) -> u64;
+
+    pub fn rikkovan_config_lpsys_hclk_mhz(
+        head: *mut u8,
+        head_len: usize,
+        freq_mhz: u32,
+        journal: *mut u32,
+        journal_len: usize,
+    ) -> u64;
+    pub fn rikkovan_ensure_safe_lcpu_frequency(
+        head: *mut u8,
+        head_len: usize,
+        journal: *mut u32,
+        journal_len: usize,
+    ) -> u64;
+    pub fn rikkovan_set_lpsys_hdiv(
+        head: *mut u8,
+        head_len: usize,
+        hdiv: u8,
+        journal: *mut u32,
+        journal_len: usize,
+    ) -> u64;
+    pub fn rikkovan_set_lpsys_div(
+        head: *mut u8,
+        head_len: usize,
+        hdiv: u8,
+        pdiv1: u8,
+        pdiv2: u8,
+        journal: *mut u32,
+        journal_len: usize,
+    ) -> u64;
+    pub fn rikkovan_config_lpsys_mac_clock(
+        head: *mut u8,
+        head_len: usize,
+        macdiv: u8,
+        macfreq: u8,
+        journal: *mut u32,
+        journal_len: usize,
+    ) -> u64;
+    pub fn rikkovan_select_lpsys_sysclk(
+        head: *mut u8,
+        head_len: usize,
+        source: u8,
+        journal: *mut u32,
+        journal_len: usize,
+    ) -> u64;
+    pub fn rikkovan_select_lpsys_peri(
+        head: *mut u8,
+        head_len: usize,
+        source: u8,
+        journal: *mut u32,
+        journal_len: usize,
+    ) -> u64;
+    pub fn rikkovan_cancel_lcpu_active_request(
+        head: *mut u8,
+        head_len: usize,
+        journal: *mut u32,
+        journal_len: usize,
+    ) -> u64;
+    pub fn rikkovan_wake_lcpu(
+        head: *mut u8,
+        head_len: usize,
+        journal: *mut u32,
+        journal_len: usize,
+        answers: *const u16,
+        answers_len: usize,
+    ) -> u64;
+    pub fn rikkovan_ensure_hxt48_ready(
+        head: *mut u8,
+        head_len: usize,
+        journal: *mut u32,
+        journal_len: usize,
+        answers: *const u16,
+        answers_len: usize,
+    ) -> u64;
+
+    pub fn rikkovan_calibrate_hrc48(
+        head: *mut u8,
+        head_len: usize,
+        journal: *mut u32,
+        journal_len: usize,
+        answers: *const u16,
+        answers_len: usize,
+    ) -> u64;
+    pub fn rikkovan_init(
+        head: *mut u8,
+        head_len: usize,
+        plan: *const u8,
+        plan_len: usize,
+        clocks: *mut u32,
+        journal: *mut u32,
+        journal_len: usize,
+        answers: *const u16,
+        answers_len: usize,
+    ) -> u64;
+    pub fn rikkovan_reconfigure_sysclk(
+        head: *mut u8,
+        head_len: usize,
+        plan: *const u8,
+        plan_len: usize,
+        clocks: *mut u32,
+        journal: *mut u32,
+        journal_len: usize,
+        answers: *const u16,
+        answers_len: usize,
+    ) -> u64;
+
+    pub fn rikkovan_load_check(tasks: *const u8, tasks_len: usize) -> u64;
+    pub fn rikkovan_book(
+        head: *mut u8,
+        head_len: usize,
+        id: u8,
+        cycles: u32,
+        period_us: u32,
+    ) -> u64;
+    pub fn rikkovan_release(head: *mut u8, head_len: usize, id: u8) -> u64;
+
+    pub fn rikkovan_change(
+        head: *mut u8,
+        head_len: usize,
+        plan: *const u8,
+        plan_len: usize,
+        journal: *mut u32,
+        journal_len: usize,
+        answers: *const u16,
+        answers_len: usize,
+    ) -> u64;
+}

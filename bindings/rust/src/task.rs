@@ -1,0 +1,60 @@
+//! Tasks and their load.
+
+use crate::bytes;
+use crate::refusal::Refusal;
+
+/// A task, which needs so many core cycles in each period.
+#[derive(Debug, Clone, Copy, PartialEq, Eq, Hash)]
+pub struct Task {
+    /// 1 to 255, no two tasks of a head alike.
+    pub id: u8,
+    /// Core cycles in each period, 1 or more.
+    pub cycles: u32,
+    /// The period in microseconds, 1 to 10,000,000.
+    pub period_us: u32,
+}
+
+impl Task {
+    /// The bytes of a record.
+    pub const BYTES: usize = 9;
+
+    /// The most tasks of a head or a list.
+    pub const MOST: usize = 16;
+
+    /// The task's record.
+    pub const fn to_record(&self) -> [u8; Self::BYTES] {
+        let [c0, c1, c2, c3] = self.cycles.to_be_bytes();
+        let [p0, p1, p2, p3] = self.period_us.to_be_bytes();
+        [self.id, c0, c1, c2, c3, p0, p1, p2, p3]
+    }
+
+    /// The task of a record, which a head or [`load_check`] may yet refuse.
+    pub const fn from_record(record: [u8; Self::BYTES]) -> Self {
+        let [id, c0, c1, c2, c3, p0, p1, p2, p3] = record;
+        Self {
+            id,
+            cycles: u32::from_be_bytes([c0, c1, c2, c3]),
+            period_us: u32::from_be_bytes([p0, p1, p2, p3]),
+        }
+    }
+}
+
+/// Checks a list of tasks, and gives its load in cycles per second: the sum of their shares, each
+/// cycles * 1,000,000 / period, rounded up.
+///
+/// Refusals, each tested of the whole list before the next: 41 for more than 16 tasks, 16 for a
+/// task that holds what it may not hold, 40 for two tasks with one id.
+///
+/// ```
+/// use rikkovan::{Refusal, Task, load_check};
+///
+/// let video = Task { id: 1, cycles: 120_000, period_us: 1_000 };
+/// let radio = Task { id: 2, cycles: 1, period_us: 3 };
+/// assert_eq!(load_check(&[video, radio]), Ok(120_333_334));
+/// assert_eq!(load_check(&[video, video]), Err(Refusal::IdInUse));
+/// ```
+pub fn load_check(tasks: &[Task]) -> Result<u64, Refusal> {
+    let records: Vec<u8> = tasks.iter().flat_map(Task::to_record).collect();
+    let word = bytes::load_check(&records);
+    word.refusal().map_or(Ok(word.load()), Err)
+}
