@@ -1,5 +1,5 @@
-//! Finds the original sources and librikkovan.a, and writes into OUT_DIR the
-//! `#[path]` lines by which the sources are compiled from their place.
+//! Finds the original sources, and writes into OUT_DIR the `#[path]` lines by
+//! which they are compiled from their place.
 
 use std::env;
 use std::fs;
@@ -24,8 +24,10 @@ const MODULES: [(&str, &[&str]); 3] = [
 const ALLOW: &str = "#[allow(dead_code, unused_imports, clippy::all)]";
 
 fn main() {
+    // A relative folder starts at the repository root.
     let repository = Path::new(&variable("CARGO_MANIFEST_DIR")).join("..");
-    let sources = directory(&repository, "SIFLI_SRC", "../shared/docs/src").join("sifli-hal/src");
+    let folder = env::var("SIFLI_SRC").unwrap_or_else(|_| "../shared/docs/src".to_string());
+    let sources = repository.join(folder).join("sifli-hal/src");
     let out = PathBuf::from(variable("OUT_DIR"));
     for (file, modules) in MODULES {
         let text: String = modules.iter().map(|m| declaration(&sources, m)).collect();
@@ -33,11 +35,7 @@ fn main() {
             fail(&format!("cannot write {file}: {error}"));
         }
     }
-    link(&directory(
-        &repository,
-        "RIKKOVAN_LIB_DIR",
-        "target/staticlib",
-    ));
+    println!("cargo::rerun-if-env-changed=SIFLI_SRC");
     println!("cargo::rerun-if-changed=build.rs");
     println!("cargo::rustc-check-cfg=cfg(feature, values(\"defmt\", \"time-driver-gptim1\"))");
 }
@@ -54,25 +52,6 @@ fn declaration(sources: &Path, module: &str) -> String {
     println!("cargo::rerun-if-changed={}", path.display());
     let name = path.file_stem().unwrap_or_default().to_string_lossy();
     format!("{ALLOW}\n#[path = {path:?}]\npub mod {name};\n")
-}
-
-fn link(directory: &Path) {
-    let library = directory.join("librikkovan.a");
-    if !library.exists() {
-        println!(
-            "cargo::warning={} is not there: `cargo test` works, the program does not link",
-            library.display()
-        );
-    }
-    println!("cargo::rerun-if-changed={}", library.display());
-    println!("cargo::rustc-link-arg-bins={}", library.display());
-}
-
-/// The folder named by an environment variable, or its default; a relative one
-/// starts at the repository root.
-fn directory(repository: &Path, name: &str, default: &str) -> PathBuf {
-    println!("cargo::rerun-if-env-changed={name}");
-    repository.join(env::var(name).unwrap_or_else(|_| default.to_string()))
 }
 
 fn variable(name: &str) -> String {

@@ -20,11 +20,13 @@ use crate::word::Word;
 // as mutable overlaps with no other borrow. The library asks for nothing else.
 
 /// Checks a plan record: 0 where it is accepted, else a refusal number from 1 to 14.
+#[inline]
 pub fn plan_check(plan: &[u8]) -> u64 {
     unsafe { sys::rikkovan_plan_check(plan.as_ptr(), plan.len()) }
 }
 
 /// Reads the 15 frequencies of a head, in the order of [`Clocks`](crate::Clocks), 0 for none.
+#[inline]
 pub fn read_clocks(head: &[u8], clocks: &mut [u32; CLOCKS]) -> Word {
     let clocks = clocks.as_mut_ptr();
     Word(unsafe { sys::rikkovan_read_clocks(head.as_ptr(), head.len(), clocks) })
@@ -32,27 +34,32 @@ pub fn read_clocks(head: &[u8], clocks: &mut [u32; CLOCKS]) -> Word {
 
 /// Reads the six frequencies of LPSYS, in the order of [`LpsysClocks`](crate::LpsysClocks), 0 for
 /// none.
+#[inline]
 pub fn read_lpsys(head: &[u8], lpsys: &mut [u32; LPSYS_CLOCKS]) -> Word {
     let lpsys = lpsys.as_mut_ptr();
     Word(unsafe { sys::rikkovan_read_lpsys(head.as_ptr(), head.len(), lpsys) })
 }
 
 /// Checks a list of tasks; the word has the load.
+#[inline]
 pub fn load_check(tasks: &[u8]) -> Word {
     Word(unsafe { sys::rikkovan_load_check(tasks.as_ptr(), tasks.len()) })
 }
 
 /// Books a task on a head.
+#[inline]
 pub fn book(head: &mut [u8], id: u8, cycles: u32, period_us: u32) -> Word {
     Word(unsafe { sys::rikkovan_book(head.as_mut_ptr(), head.len(), id, cycles, period_us) })
 }
 
 /// Releases a task of a head.
+#[inline]
 pub fn release(head: &mut [u8], id: u8) -> Word {
     Word(unsafe { sys::rikkovan_release(head.as_mut_ptr(), head.len(), id) })
 }
 
 /// Changes the core clock of a fit head, guarded.
+#[inline]
 pub fn change(head: &mut [u8], plan: &[u8], journal: &mut [u32], answers: &[u16]) -> Word {
     Word(unsafe {
         sys::rikkovan_change(
@@ -72,6 +79,7 @@ pub fn change(head: &mut [u8], plan: &[u8], journal: &mut [u32], answers: &[u16]
 macro_rules! lent_journal {
     ($($(#[$about:meta])* $name:ident = $exported:ident($($number:ident: $type:ty),*);)*) => {
         $($(#[$about])*
+        #[inline]
         pub fn $name(head: &mut [u8], $($number: $type,)* journal: &mut [u32]) -> Word {
             let (words, journal_len) = (journal.as_mut_ptr(), journal.len());
             let (head, head_len) = (head.as_mut_ptr(), head.len());
@@ -103,6 +111,7 @@ lent_journal! {
 macro_rules! lent_answers {
     ($($(#[$about:meta])* $name:ident = $exported:ident;)*) => {
         $($(#[$about])*
+        #[inline]
         pub fn $name(head: &mut [u8], journal: &mut [u32], answers: &[u16]) -> Word {
             Word(unsafe {
                 sys::$exported(
@@ -131,6 +140,7 @@ lent_answers! {
 macro_rules! lent_clocks {
     ($($(#[$about:meta])* $name:ident = $exported:ident;)*) => {
         $($(#[$about])*
+        #[inline]
         pub fn $name(
             head: &mut [u8],
             plan: &[u8],
