@@ -23,7 +23,8 @@ impl Head {
     /// two stores is HCLK above what the supply carries. Of the plan, core select, dividers and
     /// DLL1 are stored. A head whose tasks the plan's HCLK does not carry is left as it is.
     ///
-    /// Refusals: 18, the plan's (4 to 14), 37, 38, 39; and 36, which keeps what was done so far.
+    /// Refusals: `Answers`, the plan's (4 to 14), `Unfit`, `Oscillator`, `Load`; and
+    /// `AnswersRanOut`, which keeps what was done so far.
     ///
     /// ```
     /// use rikkovan::{Entry, Head, Hertz, Plan, Register, WaitKind};
@@ -53,7 +54,8 @@ impl Head {
     /// Brings up the clocks of a head that boots, as a plan has them. The flash clocks of the plan
     /// are not stored.
     ///
-    /// Refusals: 18, the plan's (4 to 14); and with what was done so far kept, 32, 34, 35 and 36.
+    /// Refusals: `Answers`, the plan's (4 to 14); and with what was done so far kept, `OnHrc48`,
+    /// `HclkUnreadable`, `PresentHclk` and `AnswersRanOut`.
     pub fn init(&mut self, plan: &Plan, answers: &[u16]) -> Outcome<Booted> {
         let plan = plan.to_record();
         let mut clocks = [0; CLOCKS];
@@ -72,7 +74,8 @@ impl Head {
     ///
     /// Takes the frequencies before the call, and gives those after it, with the audio PLL's kept.
     ///
-    /// Refusals: 18, the plan's (4 to 14), 35; and with what was done so far kept, 34 and 36.
+    /// Refusals: `Answers`, the plan's (4 to 14), `PresentHclk`; and with what was done so far
+    /// kept, `HclkUnreadable` and `AnswersRanOut`.
     pub fn reconfigure_sysclk(
         &mut self,
         plan: &Plan,
@@ -89,14 +92,15 @@ impl Head {
 
     /// Calibrates HRC48 against HXT48.
     ///
-    /// Refusals: 18, 31; and with what was done so far kept, 33, 34 and 36.
+    /// Refusals: `Answers`, `Hxt48NotReady`; and with what was done so far kept, `HclkUnreadable`,
+    /// `AnswersRanOut`, and at the end `Difference`.
     pub fn calibrate_hrc48(&mut self, answers: &[u16]) -> Outcome {
         self.perform(|head, journal| bytes::calibrate_hrc48(head, journal, answers))
     }
 
     /// Books a task, where the present HCLK carries it beside the tasks that are booked.
     ///
-    /// Refusals, which change nothing: 16, 40, 41, 34, 39.
+    /// Refusals, which change nothing: `Task`, `IdInUse`, `Tasks`, `HclkUnreadable`, `Load`.
     ///
     /// ```
     /// use rikkovan::{Head, Refusal, Task};
@@ -126,7 +130,7 @@ impl Head {
 
     /// Releases the task with an id; those behind it move up by one place.
     ///
-    /// Refusal, which changes nothing: 42.
+    /// Refusal, which changes nothing: `IdUnknown`.
     pub fn release(&mut self, id: u8) -> Result<(), Refusal> {
         done(bytes::release(&mut self.bytes, id))
     }

@@ -58,7 +58,7 @@ impl Head {
         Self { bytes }
     }
 
-    /// The head in a buffer, or refusal 1, 2 or 3.
+    /// The head in a buffer. Refusals: `Length`, `Version`, `Code`.
     pub fn from_bytes(buffer: &[u8]) -> Result<Self, Refusal> {
         let bytes = buffer.try_into().map_err(|_| Refusal::Length)?;
         Self { bytes }.tested()
@@ -75,7 +75,8 @@ impl Head {
         self.bytes[register.place()].iter().fold(0, value)
     }
 
-    /// Puts a value into a register: a * 65,536 + b * 256 + c. Refusal 3 where it may not hold it.
+    /// Puts a value into a register: a * 65,536 + b * 256 + c. Refusal, which changes nothing:
+    /// `Code`.
     pub fn set_register(&mut self, register: Register, value: u32) -> Result<(), Refusal> {
         let [0, abc @ ..] = value.to_be_bytes() else {
             return Err(Refusal::Code);

@@ -21,7 +21,7 @@ impl Head {
     /// Sets the LPSYS HCLK to a frequency, and its supply with it: an LPSYS request. The divider
     /// is 48 MHz / the request, rounded down, so 25 to 47 MHz give 48.
     ///
-    /// Refusals: 15; and 34, which keeps the two stores before the delay.
+    /// Refusals: `LpsysRequest`; and `HclkUnreadable`, which keeps the two stores before the delay.
     ///
     /// ```
     /// use rikkovan::{Entry, Head, Hertz, Megahertz, Refusal, Register};
@@ -50,7 +50,7 @@ impl Head {
     /// Brings the LPSYS HCLK down to 24 MHz where it is above. Gives the LPSYS HCLK before the
     /// call.
     ///
-    /// Refusal: 43.
+    /// Refusal: `LpsysHclkUnreadable`.
     pub fn ensure_safe_lcpu_frequency(&mut self) -> Outcome<Hertz> {
         let outcome = self.call(bytes::ensure_safe_lcpu_frequency);
         outcome.map(|done| done.map(Hertz))
@@ -89,7 +89,8 @@ impl Head {
 
     /// Wakes the core of LPSYS; the wake count goes up by 1, from 255 to 0.
     ///
-    /// Refusals: 18; and 34 and 36, which keep what was done so far.
+    /// Refusals: `Answers`; and `HclkUnreadable` and `AnswersRanOut`, which keep what was done so
+    /// far.
     pub fn wake_lcpu(&mut self, answers: &[u16]) -> Outcome {
         self.perform(|head, journal| bytes::wake_lcpu(head, journal, answers))
     }
@@ -101,7 +102,7 @@ impl Head {
 
     /// Makes HXT48 ready for both systems.
     ///
-    /// Refusals: 18; and 36, which keeps what was done so far.
+    /// Refusals: `Answers`; and `AnswersRanOut`, which keeps what was done so far.
     pub fn ensure_hxt48_ready(&mut self, answers: &[u16]) -> Outcome {
         self.perform(|head, journal| bytes::ensure_hxt48_ready(head, journal, answers))
     }

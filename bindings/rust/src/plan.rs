@@ -101,8 +101,8 @@ impl Plan {
         ]
     }
 
-    /// The plan of a record, which [`check`](Self::check) may yet refuse; or refusal 1, 2 or 3,
-    /// where it is no record.
+    /// The plan of a record, which [`check`](Self::check) may yet refuse. Refusals: `Length`,
+    /// `Version`, `Code`.
     pub fn from_record(record: &[u8]) -> Result<Self, Refusal> {
         match checked(record) {
             Some(refusal @ (Refusal::Length | Refusal::Version | Refusal::Code)) => Err(refusal),

@@ -35,8 +35,9 @@ mod builder;
 mod codes;
 mod mux;
 
-pub use builder::{ConfigBuilder, HclkPrescaler};
+pub use builder::ConfigBuilder;
 pub use codes::{
-    Dll, DllStage, Lpsel, Mpisel, PclkPrescaler, Perisel, Rtcsel, Sysclk, Ticksel, Usbsel, Wdtsel,
+    Dll, DllStage, HclkPrescaler, Lpsel, Mpisel, PclkPrescaler, Perisel, Rtcsel, Sysclk, Ticksel,
+    Usbsel, Wdtsel,
 };
 pub use mux::ClockMux;

@@ -42,8 +42,7 @@ impl Task {
 /// Checks a list of tasks, and gives its load in cycles per second: the sum of their shares, each
 /// cycles * 1,000,000 / period, rounded up.
 ///
-/// Refusals, each tested of the whole list before the next: 41 for more than 16 tasks, 16 for a
-/// task that holds what it may not hold, 40 for two tasks with one id.
+/// Refusals, each tested of the whole list before the next: `Tasks`, `Task`, `IdInUse`.
 ///
 /// ```
 /// use rikkovan::{Refusal, Task, load_check};

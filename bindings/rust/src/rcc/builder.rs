@@ -1,26 +1,9 @@
 //! A plan with the names that the HAL has for it.
 
-use super::codes::{Dll, Lpsel, Mpisel, PclkPrescaler, Rtcsel, Sysclk, Ticksel};
+use super::codes::{Dll, HclkPrescaler, Lpsel, Mpisel, PclkPrescaler, Rtcsel, Sysclk, Ticksel};
 use super::mux::ClockMux;
 use crate::plan::Plan;
 use crate::refusal::Refusal;
-
-/// Divides the core clock; 0 divides by 1.
-#[derive(Debug, Clone, Copy, PartialEq, Eq, Hash)]
-pub struct HclkPrescaler(pub u8);
-
-impl HclkPrescaler {
-    /// A divider.
-    pub const fn new(div: u8) -> Self {
-        Self(div)
-    }
-}
-
-impl Default for HclkPrescaler {
-    fn default() -> Self {
-        Self(1)
-    }
-}
 
 /// A plan with the names of the HAL's `rcc::ConfigBuilder`; from and to a [`Plan`].
 #[derive(Debug, Clone, Copy, PartialEq, Eq, Hash)]
@@ -53,8 +36,8 @@ impl ConfigBuilder {
         Self::from_plan(Plan::DEFAULT)
     }
 
-    /// For a change of the core clock: HXT48, no DLL, no USB. Its PCLK2 is that of HCLK, so it is
-    /// refused until [`with_pdiv2`](Self::with_pdiv2) divides it.
+    /// For a change of the core clock: HXT48, no DLL, no USB. Its PCLK2 is HCLK, so it is refused
+    /// until [`with_pdiv2`](Self::with_pdiv2) divides it.
     pub const fn sysclk() -> Self {
         Self {
             sys: Sysclk::Hxt48,

@@ -16,6 +16,23 @@ numbered! {
     }
 }
 
+/// Divides the core clock; 0 divides by 1.
+#[derive(Debug, Clone, Copy, PartialEq, Eq, Hash)]
+pub struct HclkPrescaler(pub u8);
+
+impl HclkPrescaler {
+    /// A divider.
+    pub const fn new(div: u8) -> Self {
+        Self(div)
+    }
+}
+
+impl Default for HclkPrescaler {
+    fn default() -> Self {
+        Self(1)
+    }
+}
+
 numbered! {
     /// Divides HCLK by a power of 2; its number is the exponent.
     PclkPrescaler: u8 {
@@ -149,7 +166,7 @@ numbered! {
 }
 
 numbered! {
-    /// The clock of the RTC. A plan has no field for it, and this is the only one.
+    /// The clock of the RTC. A plan has no field for it: this is its only value.
     Rtcsel: u8 {
         /// 100,000 Hz.
         Lrc10 = 0,
@@ -157,7 +174,7 @@ numbered! {
 }
 
 numbered! {
-    /// The clock of the system tick. A plan has no field for it, and this is the only one.
+    /// The clock of the system tick. A plan has no field for it: this is its only value.
     Ticksel: u8 {
         /// The clock of the RTC.
         ClkRtc = 0,
@@ -165,7 +182,7 @@ numbered! {
 }
 
 numbered! {
-    /// The low-power select. A plan has no field for it, and this is the only one.
+    /// The low-power select. A plan has no field for it: this is its only value.
     Lpsel: u8 {
         /// The core runs on the clock of the core select.
         SelSys = 0,
