@@ -111,5 +111,5 @@ pub fn configure_dll(
 {
     let m = set_dll(m, journal, number, d);
     let m = journal::delay_us(m, journal, 10);
-    journal::wait_for(m, journal, answers, number as u32)
+    waits::wait_for(m, journal, answers, number as u32)
 }

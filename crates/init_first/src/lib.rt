@@ -39,7 +39,7 @@ fn start_hxt48(m: Machine, journal: &mut [u32], answers: &[u16]) -> Machine
         return m;
     }
     let m = m.store(journal, 22, 1);
-    journal::wait_hxt48(m, journal, answers)
+    hxt48_wait::wait_hxt48(m, journal, answers)
 }
 
 pub fn init_begin(m: Machine, journal: &mut [u32], answers: &[u16]) -> Machine

@@ -1,7 +1,6 @@
 pub mod Reached
 pub mod Stores
 pub mod Delays
-pub mod Polls
 pub mod Replay
 pub mod Moments
 pub mod Steps

@@ -1,11 +1,11 @@
 -- The code's state of a running call, and what it means that code does an effect. Assumes nothing.
-use Prim.Native.Nat.{ℕ, _+_, _<_, _≤_}
+use Prim.Native.Nat.{ℕ, _+_, _≤_}
 use mathlib.Core.Path.{_≡_}
 use mathlib.Core.List.{List, _++_}
 use lib.ListN.{length, drop}
 use Rattle.head.specs.Encodable.{Encodable}
 use Rattle.journal.specs.declared.Machine.{Machine}
-use Rattle.journal.specs.Run.{Run, Effect, Poll, hit, dry}
+use Rattle.journal.specs.Run.{Run, Effect}
 
 -- the machine of a run
 abbrev pub machineOf : Run → Machine
@@ -33,8 +33,3 @@ pub record Ready (k : ℕ) (m : Machine) (j : List ℕ) : Type 0 where
 pub record Kept (k : ℕ) (m m' : Machine) : Type 0 where
   pub room : m' .at ≤ m .at + k
   pub encodable : Encodable (m' .head)
-
--- `r` is the place of the first ready answer of `a` from `from` on, or past the last, by what polling the rest finds
-abbrev pub Found : List ℕ → ℕ → ℕ → Poll → Type 0
-Found a from r (hit n) = (r < length a) × (from + n ≡ r + 1)
-Found a from r dry = r ≡ length a

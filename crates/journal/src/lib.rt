@@ -1,6 +1,4 @@
-// A running call: stores, delays and waits over the head by value, each writing its entry into the lent journal.
-mod waits;
-
+// A running call: stores and delays over the head by value, each writing its entry into the lent journal.
 ghost use mathlib.Core.Path.{_≡_};
 ghost use mathlib.Core.Bool.{true};
 ghost use Prim.Native.Nat.{_<_, _≤_};
@@ -12,10 +10,6 @@ ghost use Rattle.journal.specs.Machine.{Ran, Quietly, Ready, Kept};
 use head::Head;
 use time::Hertz;
 use time::Reading;
-pub use waits::measure;
-pub use waits::wait_for;
-pub use waits::wait_hxt48;
-pub use waits::wait_lpsys_hxt48;
 
 pub struct Machine {
     pub head: Head,

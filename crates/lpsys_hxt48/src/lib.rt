@@ -17,7 +17,7 @@ fn request_hxt48(m: Machine, journal: &mut [u32], answers: &[u16]) -> Machine
         return m;
     }
     let m = m.store(journal, 22, 1);
-    journal::wait_hxt48(m, journal, answers)
+    hxt48_wait::wait_hxt48(m, journal, answers)
 }
 
 fn request_lpsys_hxt48(m: Machine, journal: &mut [u32], answers: &[u16]) -> Machine
@@ -32,7 +32,7 @@ fn request_lpsys_hxt48(m: Machine, journal: &mut [u32], answers: &[u16]) -> Mach
         return m;
     }
     let m = m.store(journal, 32, 1);
-    journal::wait_lpsys_hxt48(m, journal, answers)
+    hxt48_wait::wait_lpsys_hxt48(m, journal, answers)
 }
 
 pub fn hxt48_ready(m: Machine, journal: &mut [u32], answers: &[u16]) -> Machine

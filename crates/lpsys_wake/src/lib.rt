@@ -59,7 +59,7 @@ fn wake_first(m: Machine, journal: &mut [u32], answers: &[u16]) -> Machine
 {
     let m = m.store(journal, 33, 1);
     let m = journal::delay_us(m, journal, 230);
-    journal::wait_for(m, journal, answers, 6)
+    waits::wait_for(m, journal, answers, 6)
 }
 
 pub fn wake(m: Machine, journal: &mut [u32], answers: &[u16]) -> Machine
@@ -70,7 +70,7 @@ pub fn wake(m: Machine, journal: &mut [u32], answers: &[u16]) -> Machine
 {
     let m = wake_first(m, journal, answers);
     let m = journal::delay_us(m, journal, 30);
-    let m = journal::wait_for(m, journal, answers, 6);
+    let m = waits::wait_for(m, journal, answers, 6);
     count_up(m)
 }
 

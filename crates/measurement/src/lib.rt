@@ -22,7 +22,7 @@ pub fn measurement(m: Machine, journal: &mut [u32], answers: &[u16], trim: u16) 
     let m = m.store(journal, 19, trim as u32);
     let m = journal::delay_us(m, journal, 3);
     let m = m.store(journal, 21, 1);
-    let m = journal::measure(m, journal, answers);
+    let m = waits::measure(m, journal, answers);
     m.store(journal, 21, 0)
 }
 

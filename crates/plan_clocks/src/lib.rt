@@ -2,7 +2,7 @@
 ghost use mathlib.Core.Path.{_≡_};
 ghost use Prim.Native.Nat.{_≤_};
 ghost use Rattle.plan_code.specs.Code.{stageOf};
-ghost use Rattle.plan_clocks.specs.Clocks.{maybeHz, maybeWholeHz, sysHz, hclkHz, pclk1Hz, pclk2Hz, usbHz, usbDivider, targetOf};
+ghost use Rattle.plan_clocks.specs.Clocks.{maybeHz, maybeWholeHz, sysHz, hclkHz, usbHz, usbDivider, targetOf};
 use clock::MaybeDll;
 use plan::Plan;
 use time::Hertz;
@@ -63,20 +63,6 @@ pub fn hclk(p: Plan) -> Hertz
     clock::divide(sysclk(p), p.hdiv)
 }
 
-pub fn pclk1(p: Plan) -> Hertz
-    requires { ⌜ stageOf (p .dll1) ≤ 15 ⌝ }
-    ensures { λ r. ⌜ r .0 ≡ pclk1Hz p ⌝ }
-{
-    clock::prescale(hclk(p), p.pdiv1)
-}
-
-pub fn pclk2(p: Plan) -> Hertz
-    requires { ⌜ stageOf (p .dll1) ≤ 15 ⌝ }
-    ensures { λ r. ⌜ r .0 ≡ pclk2Hz p ⌝ }
-{
-    clock::prescale(hclk(p), p.pdiv2)
-}
-
 // The clock that USB is divided from.
 pub fn usb_source(p: Plan) -> Hertz
     requires { ⌜ (stageOf (p .dll1) ≤ 15) × (stageOf (p .dll2) ≤ 15) ⌝ }
@@ -108,10 +94,11 @@ pub fn target_of(p: Plan) -> Target
     requires { ⌜ (stageOf (p .dll1) ≤ 15) × (stageOf (p .dll2) ≤ 15) ⌝ }
     ensures { λ r. ⌜ r ≡ targetOf p ⌝ }
 {
+    let f = hclk(p);
     Target {
-        hclk: hclk(p),
-        pclk1: pclk1(p),
-        pclk2: pclk2(p),
+        hclk: f,
+        pclk1: clock::prescale(f, p.pdiv1),
+        pclk2: clock::prescale(f, p.pdiv2),
         usb_div: usb_divider(p),
     }
 }

@@ -42,10 +42,20 @@ pub within-step : (xs ms : List ℕ) (i : ℕ) → i < length xs → i < length 
 unfolding isWithin
 within-step xs ms i p q = rw (drop-cons xs i 0 p, drop-cons ms i 0 q)
 
+-- and off the rest to what was passed
+pub within-passed : (all : Bool) (xs ms : List ℕ) (i : ℕ) → i < length xs → i < length ms →
+    ((all && leb (getD xs i 0) (getD ms i 0)) && isWithin (drop (suc i) xs) (drop (suc i) ms)) ≡ (all && isWithin (drop i xs) (drop i ms))
+within-passed true xs ms i p q = sym (within-step xs ms i p q)
+within-passed false xs ms i p q = refl
+
 -- nothing is left past the last byte
 pub within-none : (xs ms : List ℕ) (i : ℕ) → length xs ≤ i → length ms ≤ i → isWithin (drop i xs) (drop i ms) ≡ true
 unfolding isWithin
 within-none xs ms i p q = rw (drop-of-length-le xs p, drop-of-length-le ms q)
+
+pub within-all : (all : Bool) (xs ms : List ℕ) (i : ℕ) → length xs ≤ i → length ms ≤ i → (all && isWithin (drop i xs) (drop i ms)) ≡ all
+within-all true xs ms i p q = within-none xs ms i p q
+within-all false xs ms i p q = refl
 
 -- bytes that are not as many as the largest values are not within them
 pub within-apart : (xs ms : List ℕ) → (length xs ≡ length ms → ⊥) → isWithin xs ms ≡ false

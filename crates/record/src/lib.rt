@@ -9,19 +9,19 @@ pub fn two_bytes(high: u8, low: u8) -> u16
     (high as u16) * 256 + (low as u16)
 }
 
-// Whether each byte is at most the largest value at its place.
+// Whether each byte is at most the largest value at its place. The loop has one way through, so that it
+// is compiled to vectors.
 pub fn within(bytes: &[u8], largest: &[u8]) -> bool
     ensures { λ r. ⌜ r ≡ isWithin (now (bytes .entry)) (now (largest .entry)) ⌝ }
 {
     if bytes.len() != largest.len() {
         return false;
     }
+    let mut all = true;
     let mut i = 0;
     while i < bytes.len() {
-        if largest[i] < bytes[i] {
-            return false;
-        }
+        all = all & (bytes[i] <= largest[i]);
         i += 1;
     }
-    true
+    all
 }

@@ -6,7 +6,7 @@ use lib.Dec.{eqb}
 use Rattle.record.proofs.Refusals.{none-at, not-refused}
 use Rattle.plan.specs.declared.Plan.{Plan}
 use Rattle.plan.specs.Plan.{legal}
-use Rattle.plan_clocks.specs.Clocks.{targetOf}
+use Rattle.plan_clocks.specs.Clocks.{maybeWholeHz, sysHz, hclkHz, pclk1Hz, pclk2Hz, usbHz, targetOf}
 use Rattle.plan_sources.specs.Sources.{coreOnAbsentDll1, coreOnDbl96, flashOnAbsentDll, usbOnAbsentDll2}
 use Rattle.plan_limits.specs.Limits.{usbNot60, dll1CoreTooSlow, hclkTooFast, pclk1TooFast, pclk2TooFast, dll2TooFast}
 use Rattle.verdict.specs.declared.Verdict.the-variants.{Accepted, Refused}
@@ -20,12 +20,12 @@ pub record Passed (p : Plan) : Type 0 where
   pub test-6 : flashOnAbsentDll (p .mpi1sel) p ≡ false
   pub test-7 : flashOnAbsentDll (p .mpi2sel) p ≡ false
   pub test-8 : usbOnAbsentDll2 p ≡ false
-  pub test-9 : usbNot60 p ≡ false
-  pub test-10 : dll1CoreTooSlow p ≡ false
-  pub test-11 : hclkTooFast p ≡ false
-  pub test-12 : pclk1TooFast p ≡ false
-  pub test-13 : pclk2TooFast p ≡ false
-  pub test-14 : dll2TooFast p ≡ false
+  pub test-9 : usbNot60 (p .usb) (usbHz p) ≡ false
+  pub test-10 : dll1CoreTooSlow (p .sys) (sysHz p) ≡ false
+  pub test-11 : hclkTooFast (hclkHz p) ≡ false
+  pub test-12 : pclk1TooFast (hclkHz p) (pclk1Hz p) ≡ false
+  pub test-13 : pclk2TooFast (hclkHz p) (pclk2Hz p) ≡ false
+  pub test-14 : dll2TooFast (hclkHz p) (maybeWholeHz (p .dll2)) ≡ false
 
 pub passed : (p : Plan) → planRefusal p ≡ 0 → Passed p
 unfolding planRefusal

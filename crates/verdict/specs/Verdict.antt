@@ -8,7 +8,7 @@ use Rattle.plan.specs.declared.Plan.{Plan}
 use Rattle.plan.specs.declared.Decoded.{Decoded}
 use Rattle.plan.specs.declared.Decoded.the-variants.{Read, Unread}
 use Rattle.plan.specs.Plan.{legal, decoded}
-use Rattle.plan_clocks.specs.Clocks.{targetOf}
+use Rattle.plan_clocks.specs.Clocks.{maybeWholeHz, sysHz, hclkHz, pclk1Hz, pclk2Hz, usbHz, targetOf}
 use Rattle.plan_sources.specs.Sources.{coreOnAbsentDll1, coreOnDbl96, flashOnAbsentDll, usbOnAbsentDll2}
 use Rattle.plan_limits.specs.Limits.{usbNot60, dll1CoreTooSlow, hclkTooFast, pclk1TooFast, pclk2TooFast, dll2TooFast}
 use Rattle.verdict.specs.declared.Verdict.{Verdict}
@@ -23,12 +23,12 @@ planTests p =
     ∷ refuse 6 (flashOnAbsentDll (p .mpi1sel) p)
     ∷ refuse 7 (flashOnAbsentDll (p .mpi2sel) p)
     ∷ refuse 8 (usbOnAbsentDll2 p)
-    ∷ refuse 9 (usbNot60 p)
-    ∷ refuse 10 (dll1CoreTooSlow p)
-    ∷ refuse 11 (hclkTooFast p)
-    ∷ refuse 12 (pclk1TooFast p)
-    ∷ refuse 13 (pclk2TooFast p)
-    ∷ refuse 14 (dll2TooFast p)
+    ∷ refuse 9 (usbNot60 (p .usb) (usbHz p))
+    ∷ refuse 10 (dll1CoreTooSlow (p .sys) (sysHz p))
+    ∷ refuse 11 (hclkTooFast (hclkHz p))
+    ∷ refuse 12 (pclk1TooFast (hclkHz p) (pclk1Hz p))
+    ∷ refuse 13 (pclk2TooFast (hclkHz p) (pclk2Hz p))
+    ∷ refuse 14 (dll2TooFast (hclkHz p) (maybeWholeHz (p .dll2)))
     ∷ []
 
 -- the refusal of a plan value, 0 for an accepted one

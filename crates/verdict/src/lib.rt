@@ -2,6 +2,8 @@
 mod rules;
 
 ghost use mathlib.Core.Path.{_≡_};
+ghost use mathlib.Core.Bool.{true};
+ghost use Rattle.plan.specs.Plan.{legal};
 ghost use Rattle.verdict.specs.Verdict.{verdictOf, verdict};
 use plan::Decoded;
 use plan::Plan;
@@ -17,11 +19,23 @@ pub enum Verdict {
 pub fn check_plan(p: Plan) -> Verdict
     ensures { λ r. ⌜ r ≡ verdictOf p ⌝ }
 {
-    let refusal = rules::refusal(p);
+    if !p.is_legal() {
+        return Verdict::Refused(3);
+    }
+    check_legal(p)
+}
+
+// The same of a plan whose fields lie within their codes, as those of a decoded plan do.
+fn check_legal(p: Plan) -> Verdict
+    requires { ⌜ legal p ≡ true ⌝ }
+    ensures { λ r. ⌜ r ≡ verdictOf p ⌝ }
+{
+    let target = plan_clocks::target_of(p);
+    let refusal = rules::refusal(p, target);
     if refusal != 0 {
         return Verdict::Refused(refusal);
     }
-    Verdict::Accepted(plan_clocks::target_of(p))
+    Verdict::Accepted(target)
 }
 
 // The verdict on the bytes of a record.
@@ -30,6 +44,6 @@ pub fn check(bytes: &[u8]) -> Verdict
 {
     match plan::decode(bytes) {
         Decoded::Unread(refusal) => Verdict::Refused(refusal),
-        Decoded::Read(p) => check_plan(p),
+        Decoded::Read(p) => check_legal(p),
     }
 }

@@ -1,19 +1,19 @@
 // The tests of `ConfigBuilder::check` in their order.
 ghost use mathlib.Core.Path.{_≡_};
-ghost use Prim.Native.Nat.{_≤_};
+ghost use mathlib.Core.Bool.{true};
 ghost use lib.ListN.{drop};
 ghost use Rattle.record.specs.Refusals.{firstOf};
-ghost use Rattle.plan_code.specs.Code.{stageOf};
+ghost use Rattle.plan.specs.Plan.{legal};
+ghost use Rattle.plan_clocks.specs.Clocks.{targetOf};
 ghost use Rattle.verdict.specs.Verdict.{planTests, planRefusal};
 use plan::Plan;
+use plan_clocks::Target;
 
-// The refusal of a plan, 0 for an accepted one.
-pub fn refusal(p: Plan) -> u8
+// The refusal of a plan that gives `target`, 0 for an accepted one.
+pub fn refusal(p: Plan, target: Target) -> u8
+    requires { ⌜ (legal p ≡ true) × (target ≡ targetOf p) ⌝ }
     ensures { λ r. ⌜ r ≡ planRefusal p ⌝ }
 {
-    if !p.is_legal() {
-        return 3;
-    }
     if plan_sources::core_on_absent_dll1(p) {
         return 4;
     }
@@ -29,30 +29,34 @@ pub fn refusal(p: Plan) -> u8
     if plan_sources::usb_on_absent_dll2(p) {
         return 8;
     }
-    frequency_refusal(p)
+    frequency_refusal(p, target)
 }
 
 // Tests 9 to 14.
-fn frequency_refusal(p: Plan) -> u8
-    requires { ⌜ (stageOf (p .dll1) ≤ 15) × (stageOf (p .dll2) ≤ 15) ⌝ }
+fn frequency_refusal(p: Plan, target: Target) -> u8
+    requires { ⌜ (legal p ≡ true) × (target ≡ targetOf p) ⌝ }
     ensures { λ r. ⌜ r ≡ firstOf (drop 6 (planTests p)) ⌝ }
 {
-    if plan_limits::usb_not_60(p) {
+    let hclk = target.hclk;
+    let pclk1 = target.pclk1;
+    let pclk2 = target.pclk2;
+    let dll2 = p.dll2;
+    if plan_limits::usb_not_60(p.usb, plan_clocks::usb_source(p)) {
         return 9;
     }
-    if plan_limits::dll1_core_too_slow(p) {
+    if plan_limits::dll1_core_too_slow(p.sys, plan_clocks::sysclk(p)) {
         return 10;
     }
-    if plan_limits::hclk_too_fast(p) {
+    if plan_limits::hclk_too_fast(hclk) {
         return 11;
     }
-    if plan_limits::pclk1_too_fast(p) {
+    if plan_limits::pclk1_too_fast(hclk, pclk1) {
         return 12;
     }
-    if plan_limits::pclk2_too_fast(p) {
+    if plan_limits::pclk2_too_fast(hclk, pclk2) {
         return 13;
     }
-    if plan_limits::dll2_too_fast(p) {
+    if plan_limits::dll2_too_fast(hclk, plan_clocks::dll_whole_freq(dll2)) {
         return 14;
     }
     0

@@ -1,6 +1,6 @@
 -- `plan_clocks::target_of` meets its contract: each field is what its function ensures. Assumes nothing.
 use Rattle.time.proofs.Equal.{hertz-is}
-use Rattle.plan_clocks.specs.Clocks.{targetOf}
+use Rattle.plan_clocks.specs.Clocks.{targetOf, pclk1Hz, pclk2Hz}
 use borrow.Author.Needs.{needs}
 use Rattle.plan_clocks.proofs.target_of.Statement.{statement}
 use Rattle.plan_clocks.proofs.target_of.Tie as tie
@@ -8,19 +8,20 @@ use Rattle.plan_clocks.proofs.target_of.Tie as tie
 hclk-requires : tie.Need-hclk-requires
 hclk-requires c κs = search needs
 
-pclk1-requires : tie.Need-pclk1-requires
-pclk1-requires c κs = search needs
+prescale-requires : tie.Need-prescale-requires
+prescale-requires c κs = search needs
 
-pclk2-requires : tie.Need-pclk2-requires
-pclk2-requires c κs = search needs
+prescale-requires-2 : tie.Need-prescale-requires-2
+prescale-requires-2 c κs = search needs
 
 usb-divider-requires : tie.Need-usb-divider-requires
 usb-divider-requires c κs = search needs
 
 returns : tie.Need-returns
-unfolding targetOf
-returns c = simp (hertz-is (c .before .before .before .hclk .ensures), hertz-is (c .before .before .pclk1 .ensures), hertz-is (c .before .pclk2 .ensures), c .usb-divider .ensures)
+unfolding targetOf pclk1Hz pclk2Hz
+returns c = simp (hertz-is (c .before .before .prescale .ensures), hertz-is (c .before .prescale2 .ensures), hertz-is (c .before .before .before .hclk .ensures), c .usb-divider .ensures)
 
 pub target-of-spec : {M : Type 1} → statement M
 target-of-spec =
-    tie.close (tie.spec hclk-requires pclk1-requires pclk2-requires usb-divider-requires returns)
+    tie.close
+    (tie.spec hclk-requires prescale-requires prescale-requires-2 usb-divider-requires returns)

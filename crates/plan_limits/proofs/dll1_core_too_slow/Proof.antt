@@ -1,7 +1,6 @@
 -- `plan_limits::dll1_core_too_slow` meets its contract. Assumes nothing.
-use borrow.Author.Tests.{eq-eqb, ne-eqb, not-true, not-false}
+use borrow.Author.Tests.{eq-eqb, ne-eqb}
 use Rattle.plan_limits.specs.Limits.{dll1CoreTooSlow}
-use borrow.Author.Needs.{needs}
 use Rattle.plan_limits.proofs.dll1_core_too_slow.Statement.{statement}
 use Rattle.plan_limits.proofs.dll1_core_too_slow.Tie as tie
 
@@ -9,12 +8,9 @@ returns : tie.Need-returns
 unfolding dll1CoreTooSlow
 returns c = simp (ne-eqb _ _ (c .if1 .taken))
 
-sysclk-requires : tie.Need-sysclk-requires
-sysclk-requires c κs = search needs
-
 returns-2 : tie.Need-returns-2
 unfolding dll1CoreTooSlow
-returns-2 c = simp (eq-eqb _ _ (c .before .before .if1 .left), c .before .sysclk .ensures)
+returns-2 c = simp (eq-eqb _ _ (c .before .if1 .left))
 
 pub dll1-core-too-slow-spec : {M : Type 1} → statement M
-dll1-core-too-slow-spec = tie.close (tie.spec returns sysclk-requires returns-2)
+dll1-core-too-slow-spec = tie.close (tie.spec returns returns-2)

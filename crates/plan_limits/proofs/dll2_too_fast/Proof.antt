@@ -1,5 +1,5 @@
 -- `plan_limits::dll2_too_fast` meets its contract. Assumes nothing.
-use borrow.Author.Tests.{eq-eqb, ne-eqb, not-true, not-false}
+use borrow.Author.Tests.{not-true, not-false}
 use Rattle.plan_limits.specs.Limits.{dll2TooFast}
 use borrow.Author.Needs.{needs}
 use Rattle.plan_limits.proofs.dll2_too_fast.Statement.{statement}
@@ -12,13 +12,9 @@ returns : tie.Need-returns
 unfolding dll2TooFast
 returns c = simp (← c .before .is-fast .ensures, not-true (c .before .is-fast .result) (c .if1 .taken))
 
-dll-whole-freq-requires : tie.Need-dll-whole-freq-requires
-dll-whole-freq-requires c κs = search needs
-
 returns-2 : tie.Need-returns-2
 unfolding dll2TooFast
-returns-2 c = simp (← c .before .before .before .is-fast .ensures, not-false (c .before .before .before .is-fast .result) (c .before .before .if1 .left), c .before .dll-whole-freq .ensures)
+returns-2 c = simp (← c .before .before .is-fast .ensures, not-false (c .before .before .is-fast .result) (c .before .if1 .left))
 
 pub dll2-too-fast-spec : {M : Type 1} → statement M
-dll2-too-fast-spec =
-    tie.close (tie.spec is-fast-requires returns dll-whole-freq-requires returns-2)
+dll2-too-fast-spec = tie.close (tie.spec is-fast-requires returns returns-2)

@@ -4,19 +4,16 @@ use borrow.Author.Needs.{needs}
 use Rattle.plan_limits.proofs.pclk1_too_fast.Statement.{statement}
 use Rattle.plan_limits.proofs.pclk1_too_fast.Tie as tie
 
-pclk1-requires : tie.Need-pclk1-requires
-pclk1-requires c κs = search needs
-
 is-fast-requires : tie.Need-is-fast-requires
 is-fast-requires c κs = search needs
 
 returns : tie.Need-returns
 unfolding pclk1TooFast
-returns c = simp (← c .before .before .is-fast .ensures, c .before .if1 .taken, c .before .before .before .pclk1 .ensures)
+returns c = simp (← c .before .before .is-fast .ensures, c .before .if1 .taken)
 
 returns-2 : tie.Need-returns-2
 unfolding pclk1TooFast
-returns-2 c = simp (← c .before .before .is-fast .ensures, c .before .if1 .left, c .before .before .before .pclk1 .ensures)
+returns-2 c = simp (← c .before .before .is-fast .ensures, c .before .if1 .left)
 
 pub pclk1-too-fast-spec : {M : Type 1} → statement M
-pclk1-too-fast-spec = tie.close (tie.spec pclk1-requires is-fast-requires returns returns-2)
+pclk1-too-fast-spec = tie.close (tie.spec is-fast-requires returns returns-2)

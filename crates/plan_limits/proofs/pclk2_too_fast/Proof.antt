@@ -4,19 +4,16 @@ use borrow.Author.Needs.{needs}
 use Rattle.plan_limits.proofs.pclk2_too_fast.Statement.{statement}
 use Rattle.plan_limits.proofs.pclk2_too_fast.Tie as tie
 
-pclk2-requires : tie.Need-pclk2-requires
-pclk2-requires c κs = search needs
-
 is-fast-requires : tie.Need-is-fast-requires
 is-fast-requires c κs = search needs
 
 returns : tie.Need-returns
 unfolding pclk2TooFast
-returns c = simp (← c .before .before .is-fast .ensures, c .before .if1 .taken, c .before .before .before .pclk2 .ensures)
+returns c = simp (← c .before .before .is-fast .ensures, c .before .if1 .taken)
 
 returns-2 : tie.Need-returns-2
 unfolding pclk2TooFast
-returns-2 c = simp (← c .before .before .is-fast .ensures, c .before .if1 .left, c .before .before .before .pclk2 .ensures)
+returns-2 c = simp (← c .before .before .is-fast .ensures, c .before .if1 .left)
 
 pub pclk2-too-fast-spec : {M : Type 1} → statement M
-pclk2-too-fast-spec = tie.close (tie.spec pclk2-requires is-fast-requires returns returns-2)
+pclk2-too-fast-spec = tie.close (tie.spec is-fast-requires returns returns-2)

@@ -1,20 +1,16 @@
 -- `plan_limits::usb_not_60` meets its contract. Assumes nothing.
-use borrow.Author.Tests.{eq-eqb, ne-eqb, not-true, not-false}
+use borrow.Author.Tests.{not-true, not-false}
 use Rattle.plan_limits.specs.Limits.{usbNot60}
-use borrow.Author.Needs.{needs}
 use Rattle.plan_limits.proofs.usb_not_60.Statement.{statement}
 use Rattle.plan_limits.proofs.usb_not_60.Tie as tie
 
 returns : tie.Need-returns
 unfolding usbNot60
-returns c = simp (not-true (c .before .args .p .usb) (c .if1 .taken))
-
-usb-source-requires : tie.Need-usb-source-requires
-usb-source-requires c κs = search needs
+returns c = simp (not-true (c .before .args .usb) (c .if1 .taken))
 
 returns-2 : tie.Need-returns-2
 unfolding usbNot60
-returns-2 c = simp (not-false (c .before .before .args .p .usb) (c .before .if1 .left), c .usb-source .ensures)
+returns-2 c = simp (not-false (c .before .args .usb) (c .if1 .left))
 
 pub usb-not-60-spec : {M : Type 1} → statement M
-usb-not-60-spec = tie.close (tie.spec returns usb-source-requires returns-2)
+usb-not-60-spec = tie.close (tie.spec returns returns-2)

@@ -1,4 +1,6 @@
--- `verdict::check` meets its contract: what the bytes decode to is judged. Assumes nothing.
+-- `verdict::check` meets its contract: what the bytes decode to is judged, and a decoded plan is legal. Assumes nothing.
+use mathlib.Core.Path.{sym, _∙_}
+use Rattle.plan.proofs.RoundTrip.{read-legal}
 use Rattle.verdict.specs.Verdict.{verdict}
 use borrow.Author.Needs.{needs}
 use Rattle.verdict.proofs.check.Statement.{statement}
@@ -13,8 +15,8 @@ enum-known-refusal c = search needs
 enum-known-p : tie.Need-enum-known-p
 enum-known-p c = search needs
 
-check-plan-requires : tie.Need-check-plan-requires
-check-plan-requires c κs = search needs
+check-legal-requires : tie.Need-check-legal-requires
+check-legal-requires c κs = read-legal _ _ (sym (c .before .before .before .decode .ensures) ∙ c .before .p .given .1)
 
 returns : tie.Need-returns
 unfolding verdict
@@ -22,9 +24,15 @@ returns c = simp (← c .before .before .before .decode .ensures, c .before .ref
 
 returns-2 : tie.Need-returns-2
 unfolding verdict
-returns-2 c = simp (← c .before .before .before .before .decode .ensures, c .before .before .p .given .1, c .check-plan .ensures)
+returns-2 c = simp (← c .before .before .before .before .decode .ensures, c .before .before .p .given .1, c .check-legal .ensures)
 
 pub check-spec : {M : Type 1} → statement M
 check-spec =
     tie.close
-    (tie.spec decode-requires enum-known-refusal enum-known-p check-plan-requires returns returns-2)
+    (tie.spec
+    decode-requires
+    enum-known-refusal
+    enum-known-p
+    check-legal-requires
+    returns
+    returns-2)

@@ -1,0 +1,98 @@
+-- `waits::measure` meets its contract: the place of the first ready answer says how many were taken, with the two counts. Assumes nothing.
+use Prim.Native.Nat.{ℕ, _+_, _-_, _*_}
+use native.Mathlib.Omega.{arith}
+use mathlib.Core.Path.{_≡_, refl}
+use lib.ListN.{length, drop}
+use Rattle.journal.specs.Run.{poll, measure}
+use Rattle.journal.proofs.Reached.{ran-ended}
+use Rattle.waits.proofs.Polls.{found-hit, found-most, ran-measured, ran-unmeasured}
+use borrow.Author.Needs.{needs}
+use Rattle.waits.proofs.measure.Statement.{statement}
+use Rattle.waits.proofs.measure.Tie as tie
+
+returns : tie.Need-returns
+unfolding measure
+returns c =
+    (ran-ended _ (c .before .before .before .args .m) _ (c .if1 .taken), (record { room = omega arith; encodable = c .before .before .before .pre .0 .encodable }, (search needs, λ z. absurd (c .if1 .taken z))))
+
+first-ready-requires : tie.Need-first-ready-requires
+first-ready-requires c κs = search needs
+
+add-if2 : tie.Need-add-if2
+add-if2 c = omega (arith, found-most (c .before .before .before .before .before .args .answers .now) (c .before .before .before .before .before .args .m .taken) (c .first-ready .result) (poll (drop (c .before .before .before .before .before .args .m .taken) (c .before .before .before .before .before .args .answers .now))) (c .first-ready .ensures))
+
+mul-journal : tie.Need-mul-journal
+mul-journal c = search needs
+
+mul-journal-2 : tie.Need-mul-journal-2
+mul-journal-2 c = search needs
+
+add-journal : tie.Need-add-journal
+add-journal c = search needs
+
+sub-journal : tie.Need-sub-journal
+sub-journal c = omega (arith, found-hit (c .before .before .before .before .before .before .args .answers .now) (c .before .before .before .before .before .before .args .m .taken) (c .before .first-ready .result) (poll (drop (c .before .before .before .before .before .before .args .m .taken) (c .before .before .before .before .before .before .args .answers .now))) (c .before .first-ready .ensures) (omega arith) .0)
+
+cast-journal : tie.Need-cast-journal
+cast-journal c = search needs
+
+add-journal-2 : tie.Need-add-journal-2
+add-journal-2 c = search needs
+
+add-journal-3 : tie.Need-add-journal-3
+add-journal-3 c = search needs
+
+mul-journal-3 : tie.Need-mul-journal-3
+mul-journal-3 c = search needs
+
+slice-write-journal : tie.Need-slice-write-journal
+slice-write-journal c = search needs
+
+add-t14 : tie.Need-add-t14
+add-t14 c = search needs
+
+add-t19 : tie.Need-add-t19
+add-t19 c = search needs
+
+same-length : tie.Need-same-length
+same-length c = search needs
+
+returns-2 : tie.Need-returns-2
+returns-2 c =
+    let m = c .before .before .before .before .before .before .args .m in
+    let i = c .before .first-ready .result in
+    let found = found-hit (c .before .before .before .before .before .before .args .answers .now) (m .taken) i (poll (drop (m .taken) (c .before .before .before .before .before .before .args .answers .now))) (c .before .first-ready .ensures) (omega arith) in
+    let n = i + 1 - m .taken in
+    let taken : m .taken + (n + 2) ≡ i + 3 = omega (arith, found .0) in
+    let count : n + 2 ≡ i + 3 - m .taken = omega (arith, found .0) in (
+      rw (taken, count) at (ran-measured m (c .before .before .before .before .before .before .args .journal .now) (c .before .before .before .before .before .before .args .answers .now) n (c .before .before .before .if1 .left) (search needs) (found .1) (omega (arith, found .0))),
+      (record { room = omega arith; encodable = c .before .before .before .before .before .before .pre .0 .encodable }, (omega arith, λ z. omega arith)),
+    )
+
+returns-3 : tie.Need-returns-3
+returns-3 c = (
+  ran-unmeasured (c .before .before .before .before .before .before .args .m) _ (c .before .before .before .before .before .before .args .answers .now) (c .before .first-ready .result) (c .before .before .before .if1 .left) (c .before .first-ready .ensures) (c .if2 .left),
+  (record { room = omega arith; encodable = c .before .before .before .before .before .before .pre .0 .encodable }, (omega arith, λ z. absurd (omega arith))),
+)
+
+pub measure-spec : {M : Type 1} → statement M
+measure-spec =
+    tie.close
+    (tie.spec
+    returns
+    first-ready-requires
+    add-if2
+    mul-journal
+    mul-journal-2
+    add-journal
+    sub-journal
+    cast-journal
+    add-journal-2
+    add-journal-3
+    mul-journal-3
+    slice-write-journal
+    add-t14
+    add-t19
+    same-length
+    returns-2
+    returns-3)

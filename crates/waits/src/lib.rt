@@ -1,0 +1,89 @@
+// Waits of a running call: polls take the lent answers one after the other, 0 not ready, else ready.
+ghost use mathlib.Core.Path.{_≡_};
+ghost use Prim.Native.Nat.{_<_, _≤_};
+ghost use lib.ListN.{length, drop};
+ghost use Rattle.journal.specs.Run.{poll, wait, measure};
+ghost use Rattle.journal.specs.Machine.{Ran, Ready, Kept};
+ghost use Rattle.waits.specs.Found.{Found};
+use journal::Machine;
+
+// The place of the first ready answer from `from` on, or past the last.
+fn first_ready(answers: &[u16], from: usize) -> usize
+    requires { ⌜ from ≤ length (now answers) ⌝ }
+    ensures { λ r. ⌜ Found (now (answers .entry)) from r (poll (drop from (now (answers .entry)))) ⌝ }
+{
+    let mut i = from;
+    while i < answers.len() {
+        if answers[i] != 0 {
+            return i;
+        }
+        i += 1;
+    }
+    i
+}
+
+// Waits of kinds 3, 4 and 6, and the polls of the others: writes the wait, or ends the call with 36 where the answers run out.
+pub fn wait_for(m: Machine, journal: &mut [u32], answers: &[u16], kind: u32) -> Machine
+    requires { ⌜ Ready 1 m (now journal) ⌝ }
+    requires { ⌜ (kind < 7) × ((m .taken ≤ length (now answers)) × (length (now answers) ≤ 4096)) ⌝ }
+    ensures { λ r. ⌜ Ran (wait kind (now (answers .entry))) m r (now (journal .entry)) (now (journal .exit)) ⌝ }
+    ensures { λ r. ⌜ Kept 1 m r ⌝ }
+    ensures { λ r. ⌜ r .taken ≤ length (now (answers .entry)) ⌝ }
+{
+    let stop = m.stop;
+    if stop != 0 {
+        return m;
+    }
+    let head = m.head;
+    let at = m.at;
+    let from = m.taken;
+    let i = first_ready(answers, from);
+    if i < answers.len() {
+        journal[at] = 49 * 16777216 + (kind * 65536 + ((i + 1 - from) as u32));
+        return Machine {
+            head,
+            at: at + 1,
+            taken: i + 1,
+            stop: 0,
+        };
+    }
+    Machine {
+        head,
+        at,
+        taken: i,
+        stop: 36,
+    }
+}
+
+// Kind 5: polls, and takes two answers more, which are the counts; they are the last two taken.
+pub fn measure(m: Machine, journal: &mut [u32], answers: &[u16]) -> Machine
+    requires { ⌜ Ready 1 m (now journal) ⌝ }
+    requires { ⌜ (m .taken ≤ length (now answers)) × (length (now answers) ≤ 4096) ⌝ }
+    ensures { λ r. ⌜ Ran (measure (now (answers .entry))) m r (now (journal .entry)) (now (journal .exit)) ⌝ }
+    ensures { λ r. ⌜ Kept 1 m r ⌝ }
+    ensures { λ r. ⌜ (r .taken ≤ length (now (answers .entry))) × (r .stop ≡ 0 → 2 ≤ r .taken) ⌝ }
+{
+    let stop = m.stop;
+    if stop != 0 {
+        return m;
+    }
+    let head = m.head;
+    let at = m.at;
+    let from = m.taken;
+    let i = first_ready(answers, from);
+    if i + 2 < answers.len() {
+        journal[at] = 49 * 16777216 + (5 * 65536 + ((i + 3 - from) as u32));
+        return Machine {
+            head,
+            at: at + 1,
+            taken: i + 3,
+            stop: 0,
+        };
+    }
+    Machine {
+        head,
+        at,
+        taken: answers.len(),
+        stop: 36,
+    }
+}
