@@ -8,6 +8,7 @@ unset MAKEFLAGS
 cc=${CC:-cc}
 cxx=${CXX:-g++}
 strict=(-Wall -Wextra -pedantic -Werror -O2)
+conversions=(-Wconversion -Wsign-conversion)
 library=target/staticlib/librikkovan.a
 . tests/lib.sh test-c || exit
 
@@ -18,12 +19,14 @@ builds_and_runs() { # PROGRAM COMMAND..
 }
 
 header_as_c() {
-    builds_and_runs "$work/c" "$cc" -std="$1" "${strict[@]}" -Iinclude tests/c/header.c "$library"
+    builds_and_runs "$work/c" \
+        "$cc" -std="$1" "${strict[@]}" "${conversions[@]}" -Iinclude tests/c/header.c "$library"
 }
 
 header_as_cxx() {
     builds_and_runs "$work/cxx" \
-        "$cxx" -std="$1" "${strict[@]}" -Iinclude -x c++ tests/c/header.c -x none "$library"
+        "$cxx" -std="$1" "${strict[@]}" "${conversions[@]}" -Iinclude -x c++ tests/c/header.c \
+        -x none "$library"
 }
 
 # Runs a test as C99, then as C++.
@@ -117,6 +120,7 @@ check 'header as C99' header_as_c c99
 check 'header as C11' header_as_c c11
 check 'header as C++11' header_as_cxx c++11
 check 'header as C++17' header_as_cxx c++17
+check 'names and small functions of the header' calls helpers
 check 'plan check' calls plan_check
 check 'readings' calls readings
 check 'LPSYS request' calls lpsys_request
