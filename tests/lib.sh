@@ -18,6 +18,15 @@ check() { # NAME COMMAND..
     fi
 }
 
+# The same where a command is installed.
+check_with() { # NEEDED NAME COMMAND..
+    if command -v "$1" >/dev/null; then
+        check "${@:2}"
+    else
+        echo "$suite: skipped: $2 ($1 is not installed)"
+    fi
+}
+
 # The last line of the tests.
 all_passed() {
     [ "$failures" -eq 0 ] || {
