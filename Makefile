@@ -11,15 +11,19 @@ STRICT = -Wall -Wextra -pedantic -Werror
 RT = rt
 BUILD_ORACLE = cargo build --release --quiet --offline --manifest-path oracle/Cargo.toml
 ORACLE = oracle/target/release/oracle
+RUNS = 2000000
+SEED = $(shell date +%s)
+SANITIZE = -O1 -g -fsanitize=address,undefined -fno-sanitize-recover=all
 
 LIBRARY = target/staticlib/librikkovan.a
 PROGRAMS = target/bin/lpset target/bin/moments
 SOURCES = crates.txt $(shell find crates -name '*.rt' -o -name '*.antt')
+FUZZ = $(filter-out %/faults.c,$(wildcard tests/fuzz/*.c))
 PLANS = $(sort $(wildcard examples/plans/*.plan))
 TASKS = $(sort $(wildcard examples/tasks/*.tasks))
 
 .DELETE_ON_ERROR:
-.PHONY: help lib run test test-c oracle oracle-library compare compare-quick compare-plans compare-heads record bench plans tasks heads install uninstall clean
+.PHONY: help lib run test test-c test-fuzz fuzz oracle oracle-library compare compare-quick compare-plans compare-heads record bench plans tasks heads install uninstall clean
 
 help:
 	@echo 'make run            prove the library, then check the example plans and tasks through it'
@@ -28,6 +32,7 @@ help:
 	@echo 'make install        install it, with header, programs and man pages (PREFIX=$(PREFIX), DESTDIR)'
 	@echo 'make uninstall      remove what make install wrote'
 	@echo 'make test-c         test the library from C and C++'
+	@echo 'make fuzz           make hostile calls under the sanitizers (RUNS=$(RUNS), SEED)'
 	@echo 'make compare        compare the library with the Rust (compare-quick: a part of it)'
 	@echo 'make record         write crates/replay/data anew from the Rust'
 	@echo 'make bench          measure the library and the Rust'
@@ -59,6 +64,20 @@ test:
 
 test-c: build/daemon $(PROGRAMS)
 	@CC='$(CC)' CXX='$(CXX)' tests/c/run.sh
+
+build/fuzz: $(FUZZ) tests/fuzz/fuzz.h include/rikkovan.h $(LIBRARY)
+	@mkdir -p build
+	$(CC) -std=c99 $(STRICT) $(SANITIZE) -Iinclude -o $@ $(FUZZ) $(LIBRARY)
+
+build/fuzz-faults: tests/fuzz/faults.c build/fuzz
+	$(CC) -std=c99 $(STRICT) $(SANITIZE) -Iinclude -Wl,--wrap=rikkovan_change -o $@ \
+		$(FUZZ) tests/fuzz/faults.c $(LIBRARY)
+
+fuzz: build/fuzz
+	build/fuzz --runs $(RUNS) --seed $(SEED)
+
+test-fuzz: $(LIBRARY)
+	@CC='$(CC)' tests/fuzz/run.sh
 
 oracle-library:
 	$(BUILD_ORACLE) --lib

@@ -81,6 +81,7 @@ stage 'list of crates' every_crate_is_listed
 stage 'rt ci' rt_ci
 stage 'library' library
 stage 'tests from C' part test-c
+stage 'fuzz' part test-fuzz
 stage 'tests of lpset' tests/lpset/run.sh
 stage 'tests of moments' tests/moments/run.sh
 compare
