@@ -180,10 +180,13 @@ uint64_t rikkovan_plan_check(const uint8_t *plan, size_t plan_len);
  *
  *   uint8_t head[RIKKOVAN_HEAD_BYTES] = RIKKOVAN_EMPTY_HEAD;
  */
-#define RIKKOVAN_EMPTY_HEAD { 0, 109, 1 }
+#define RIKKOVAN_EMPTY_HEAD { 0, RIKKOVAN_HEAD_FOLLOWING(0), 1 }
+
+/* The length field of a head with so many tasks: the bytes that follow it. */
+#define RIKKOVAN_HEAD_FOLLOWING(tasks) (109 + RIKKOVAN_TASK_BYTES * (tasks))
 
 /* The offset of each part in the buffer, and what it may hold. */
-#define RIKKOVAN_HEAD_LENGTH 0               /* 2 bytes: 109 + 9 * tasks, the bytes that follow */
+#define RIKKOVAN_HEAD_LENGTH 0               /* 2 bytes: RIKKOVAN_HEAD_FOLLOWING(tasks) */
 #define RIKKOVAN_HEAD_VERSION 2              /* 1 */
 #define RIKKOVAN_HEAD_A(reg) (3 * (reg))     /* byte a of the register of a number, 1 to 34 */
 #define RIKKOVAN_HEAD_B(reg) (3 * (reg) + 1) /* byte b */
@@ -230,7 +233,7 @@ static inline uint32_t rikkovan_task_period_us(const uint8_t task[RIKKOVAN_TASK_
 static inline void rikkovan_put_task_count(uint8_t *head, uint8_t tasks)
 {
     head[RIKKOVAN_HEAD_TASKS] = tasks;
-    rikkovan_put_16(head + RIKKOVAN_HEAD_LENGTH, (uint16_t)(109 + RIKKOVAN_TASK_BYTES * tasks));
+    rikkovan_put_16(head + RIKKOVAN_HEAD_LENGTH, (uint16_t)RIKKOVAN_HEAD_FOLLOWING(tasks));
 }
 
 /*
@@ -250,7 +253,7 @@ static inline void rikkovan_put_task_count(uint8_t *head, uint8_t tasks)
 #define RIKKOVAN_REG_TICK 9                    /* 0 */
 #define RIKKOVAN_REG_LOW_POWER 10              /* c: low-power select */
 #define RIKKOVAN_REG_HPBG 11                   /* b: hpbg_en on; c: hpbg_vddpsw_en on */
-#define RIKKOVAN_REG_HPSYS_SUPPLY 12           /* c: 0 S, 1 D */
+#define RIKKOVAN_REG_HPSYS_SUPPLY 12           /* c: RIKKOVAN_HPSYS_SUPPLY_S or _D */
 #define RIKKOVAN_REG_BUCK_VOUT 13              /* c: 0 to 15 */
 #define RIKKOVAN_REG_HPSYS_VOUT 14             /* c: 0 to 15 */
 #define RIKKOVAN_REG_SET_VOUT_M 15             /* c: 0 to 15 */
@@ -263,10 +266,10 @@ static inline void rikkovan_put_task_count(uint8_t *head, uint8_t tasks)
 #define RIKKOVAN_REG_HXT48_REQUEST 22          /* c: request */
 #define RIKKOVAN_REG_LRC32_ON 23               /* c: on */
 #define RIKKOVAN_REG_DLL_BUFFER_ON 24          /* c: on */
-#define RIKKOVAN_REG_LPSYS_SYSCLK 25           /* c: LPSYS select: 0 HRC48, 1 HXT48 */
+#define RIKKOVAN_REG_LPSYS_SYSCLK 25           /* c: RIKKOVAN_LPSYS_HRC48 or _HXT48 */
 #define RIKKOVAN_REG_LPSYS_CFGR 26             /* a: hdiv1 0 to 255; b: pdiv1, c: pdiv2, 0 to 7 */
-#define RIKKOVAN_REG_LPSYS_PERI 27             /* c: LPSYS peripheral clock: 0 HRC48, 1 HXT48 */
-#define RIKKOVAN_REG_LPSYS_SUPPLY 28           /* c: 0 D, 1 S */
+#define RIKKOVAN_REG_LPSYS_PERI 27             /* c: the same, for LPSYS peripherals */
+#define RIKKOVAN_REG_LPSYS_SUPPLY 28           /* c: RIKKOVAN_LPSYS_SUPPLY_D or _S */
 #define RIKKOVAN_REG_LPSYS_VOUT 29             /* c: 0 to 15 */
 #define RIKKOVAN_REG_LPSYS_LDO 30              /* c: vref, 0 to 15 */
 #define RIKKOVAN_REG_LPSYS_TIMING 31           /* as the HPSYS timing */
@@ -284,12 +287,16 @@ static inline void rikkovan_put_task_count(uint8_t *head, uint8_t tasks)
 #define RIKKOVAN_LPSYS_SUPPLY_D 0
 #define RIKKOVAN_LPSYS_SUPPLY_S 1
 
-/* The largest values of fields that are not codes. */
+/* The clocks of LPSYS and its peripherals. */
+#define RIKKOVAN_LPSYS_HRC48 0
+#define RIKKOVAN_LPSYS_HXT48 1
+
+/* The largest values of fields that no plan has. */
 #define RIKKOVAN_MOST_USB_DIVIDER 7
 #define RIKKOVAN_MOST_VOLTAGE 15 /* of registers 13 to 16, 29 and 30 */
 #define RIKKOVAN_MOST_TRIM 1023
 
-/* What a register holds, as one number. */
+/* What a register holds, as one number; and the same read from a head and written into it. */
 #define RIKKOVAN_VALUE(a, b, c) ((uint32_t)(a) << 16 | (uint32_t)(b) << 8 | (uint32_t)(c))
 
 static inline uint32_t rikkovan_register(const uint8_t *head, uint32_t reg)
@@ -322,7 +329,7 @@ static inline void rikkovan_put_register(uint8_t *head, uint32_t reg, uint32_t v
  * A head is refused, by the first of these tests that fails, with
  *
  *   RIKKOVAN_REFUSED_LENGTH   head_len is not 255, there are more than 16 tasks, or the length
- *                             field is not 109 + 9 * tasks
+ *                             field is not that of so many
  *   RIKKOVAN_REFUSED_VERSION  the version is not 1
  *   RIKKOVAN_REFUSED_CODE     a register, ready flag or task holds what it may not hold, or two
  *                             tasks have one id
@@ -497,8 +504,6 @@ static inline void rikkovan_put_entry(uint8_t *head, uint32_t entry)
  * The low-power system runs on 48 MHz, divided by its hdiv1, where 0 divides by 1. Above 24 MHz it
  * needs supply S.
  */
-#define RIKKOVAN_LPSYS_HRC48 0
-#define RIKKOVAN_LPSYS_HXT48 1
 #define RIKKOVAN_LPSYS_MOST_MHZ 48                   /* the highest request */
 #define RIKKOVAN_LPSYS_D_MOST_HZ (24 * RIKKOVAN_MHZ) /* the highest LPSYS HCLK on supply D */
 

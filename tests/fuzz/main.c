@@ -68,7 +68,7 @@ static void print_answers(const struct call *call, const uint64_t *count)
 static void make_runs(uint64_t runs, uint64_t seed, volatile uint64_t *present)
 {
     struct bytes bytes;
-    uint64_t step = runs / 5 + 1;
+    uint64_t step = runs < 5 ? 1 : runs / 5;
     int k;
 
     for (*present = 0; *present < runs; ++*present) {

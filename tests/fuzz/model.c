@@ -73,7 +73,7 @@ uint32_t model_head_refusal(const uint8_t *head, size_t len)
     if (len != RIKKOVAN_HEAD_BYTES)
         return RIKKOVAN_REFUSED_LENGTH;
     tasks = head[RIKKOVAN_HEAD_TASKS];
-    if (tasks > RIKKOVAN_MOST_TASKS || rikkovan_get_16(head) != 109 + RIKKOVAN_TASK_BYTES * tasks)
+    if (tasks > RIKKOVAN_MOST_TASKS || rikkovan_get_16(head) != RIKKOVAN_HEAD_FOLLOWING(tasks))
         return RIKKOVAN_REFUSED_LENGTH;
     if (head[RIKKOVAN_HEAD_VERSION] != 1)
         return RIKKOVAN_REFUSED_VERSION;
