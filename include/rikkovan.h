@@ -464,7 +464,7 @@ uint64_t rikkovan_read_lpsys(const uint8_t *head, size_t head_len,
 #define RIKKOVAN_REFUSED_JOURNAL 17         /* journal_len is below 128 */
 #define RIKKOVAN_REFUSED_HCLK_UNREADABLE 34 /* HCLK reads as none at a delay or a booking */
 
-/* The number of an entry: a register, or RIKKOVAN_ENTRY_DELAY. */
+/* The number of an entry: a register, RIKKOVAN_ENTRY_DELAY or RIKKOVAN_ENTRY_WAIT. */
 static inline uint32_t rikkovan_entry_number(uint32_t entry)
 {
     return entry >> 24;

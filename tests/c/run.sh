@@ -7,8 +7,7 @@ unset MAKEFLAGS
 
 cc=${CC:-cc}
 cxx=${CXX:-g++}
-strict=(-Wall -Wextra -pedantic -Werror -O2)
-conversions=(-Wconversion -Wsign-conversion)
+strict=(-Wall -Wextra -pedantic -Wconversion -Wsign-conversion -Werror -O2)
 library=target/staticlib/librikkovan.a
 daemon=build/daemon
 . tests/lib.sh test-c || exit
@@ -20,14 +19,12 @@ builds_and_runs() { # PROGRAM COMMAND..
 }
 
 header_as_c() {
-    builds_and_runs "$work/c" \
-        "$cc" -std="$1" "${strict[@]}" "${conversions[@]}" -Iinclude tests/c/header.c "$library"
+    builds_and_runs "$work/c" "$cc" -std="$1" "${strict[@]}" -Iinclude tests/c/header.c "$library"
 }
 
 header_as_cxx() {
     builds_and_runs "$work/cxx" \
-        "$cxx" -std="$1" "${strict[@]}" "${conversions[@]}" -Iinclude -x c++ tests/c/header.c \
-        -x none "$library"
+        "$cxx" -std="$1" "${strict[@]}" -Iinclude -x c++ tests/c/header.c -x none "$library"
 }
 
 # Runs a test as C99, then as C++.

@@ -27,6 +27,7 @@ struct input {
 };
 
 uint8_t draw(struct input *input);
+uint8_t draw_below(struct input *input, unsigned n);
 uint32_t draw_number(struct input *input, int bytes);
 int draw_one_in(struct input *input, unsigned n);
 size_t draw_length(struct input *input, size_t usual);

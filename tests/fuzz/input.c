@@ -2,9 +2,16 @@
 
 #include <string.h>
 
+#define COUNT(array) ((unsigned)(sizeof(array) / sizeof(array)[0]))
+
 uint8_t draw(struct input *input)
 {
     return input->next < input->end ? *input->next++ : 0;
+}
+
+uint8_t draw_below(struct input *input, unsigned n)
+{
+    return (uint8_t)(draw(input) % n);
 }
 
 uint32_t draw_number(struct input *input, int bytes)
@@ -30,7 +37,7 @@ size_t draw_length(struct input *input, size_t usual)
 
     if (!draw_one_in(input, 16))
         return usual;
-    return hostile[draw(input) % (sizeof hostile / sizeof hostile[0])];
+    return hostile[draw_below(input, COUNT(hostile))];
 }
 
 /* One in eight: a few bytes become anything, the first three above all, or every byte does. */
@@ -43,8 +50,8 @@ static void damage(struct input *input, uint8_t *bytes, unsigned len)
     if (draw_one_in(input, 16))
         for (n = 0; n < len; n++)
             bytes[n] = draw(input);
-    for (n = 1 + draw(input) % 4; n > 0; n--) {
-        unsigned at = draw_one_in(input, 4) ? draw(input) % 3 : draw(input) % len;
+    for (n = 1 + draw_below(input, 4); n > 0; n--) {
+        unsigned at = draw_one_in(input, 4) ? draw_below(input, 3) : draw_below(input, len);
 
         bytes[at] = draw(input);
     }
@@ -99,8 +106,7 @@ static void draw_register(struct input *input, uint8_t *head, unsigned reg)
     unsigned byte;
 
     for (byte = 0; byte < 3; byte++)
-        head[RIKKOVAN_HEAD_A(reg) + byte] =
-            (uint8_t)(draw(input) % (largest_in_register(reg, byte) + 1u));
+        head[RIKKOVAN_HEAD_A(reg) + byte] = draw_below(input, largest_in_register(reg, byte) + 1u);
 }
 
 static void draw_flags(struct input *input, uint8_t *head)
@@ -110,7 +116,7 @@ static void draw_flags(struct input *input, uint8_t *head)
     for (flag = RIKKOVAN_HEAD_HXT48_READY; flag <= RIKKOVAN_HEAD_LPSYS_HXT48_READY; flag++)
         head[flag] = draw_one_in(input, 8) ? RIKKOVAN_NOT_READY : RIKKOVAN_READY;
     head[RIKKOVAN_HEAD_BOOT_MODE] = draw_one_in(input, 8) ? RIKKOVAN_BOOT_STANDBY : draw(input);
-    head[RIKKOVAN_HEAD_WAKE_COUNT] = draw_one_in(input, 8) ? 255 : draw(input) % 4;
+    head[RIKKOVAN_HEAD_WAKE_COUNT] = draw_one_in(input, 8) ? 255 : draw_below(input, 4);
 }
 
 /* A fit head with a few registers set, or one with any registers; either may then be damaged. */
@@ -121,14 +127,14 @@ void draw_head(struct input *input, uint8_t head[RIKKOVAN_HEAD_BYTES])
 
     memset(head, draw(input), RIKKOVAN_HEAD_BYTES);
     memcpy(head, empty, sizeof empty);
-    put_base(head, &bases[draw(input) % (sizeof bases / sizeof bases[0])]);
-    for (n = draw(input) % 4; n > 0; n--)
-        draw_register(input, head, 1u + draw(input) % RIKKOVAN_REGISTERS);
+    put_base(head, &bases[draw_below(input, COUNT(bases))]);
+    for (n = draw_below(input, 4); n > 0; n--)
+        draw_register(input, head, 1u + draw_below(input, RIKKOVAN_REGISTERS));
     if (draw_one_in(input, 16))
         for (n = 1; n <= RIKKOVAN_REGISTERS; n++)
             draw_register(input, head, n);
     draw_flags(input, head);
-    tasks = draw_one_in(input, 2) ? draw(input) % (RIKKOVAN_MOST_TASKS + 1) : 0;
+    tasks = draw_one_in(input, 2) ? draw_below(input, RIKKOVAN_MOST_TASKS + 1) : 0;
     rikkovan_put_task_count(head, (uint8_t)tasks);
     draw_tasks(input, head + RIKKOVAN_HEAD_TASK(0), tasks);
     damage(input, head, RIKKOVAN_HEAD_BYTES);
@@ -145,17 +151,17 @@ static void draw_plan_base(struct input *input, uint8_t *plan)
     static const uint8_t usual[RIKKOVAN_PLAN_BYTES] = RIKKOVAN_DEFAULT_PLAN;
 
     memcpy(plan, usual, sizeof usual);
-    switch (draw(input) % 4) {
+    switch (draw_below(input, 4)) {
     case 1: /* DLL1 at up to 240 MHz */
-        plan[RIKKOVAN_PLAN_DLL1_STAGE] = draw(input) % 10;
+        plan[RIKKOVAN_PLAN_DLL1_STAGE] = draw_below(input, 10);
         plan[RIKKOVAN_PLAN_DLL1_HALF] = (uint8_t)draw_one_in(input, 4);
         plan[RIKKOVAN_PLAN_USB] = 0;
         break;
     case 2: /* an oscillator, no DLL */
         remove_dll(plan, RIKKOVAN_PLAN_DLL1_PRESENT);
         remove_dll(plan, RIKKOVAN_PLAN_DLL2_PRESENT);
-        plan[RIKKOVAN_PLAN_CORE] = draw(input) % 2;
-        plan[RIKKOVAN_PLAN_HDIV] = draw(input) % 4;
+        plan[RIKKOVAN_PLAN_CORE] = draw_below(input, 2);
+        plan[RIKKOVAN_PLAN_HDIV] = draw_below(input, 4);
         plan[RIKKOVAN_PLAN_USB] = 0;
         plan[RIKKOVAN_PLAN_MPI2] = RIKKOVAN_MPI_PERIPHERAL;
         break;
@@ -178,10 +184,11 @@ void draw_plan(struct input *input, uint8_t plan[RIKKOVAN_PLAN_BYTES])
     unsigned n;
 
     draw_plan_base(input, plan);
-    for (n = draw_one_in(input, 2) ? draw(input) % 3 : 0; n > 0; n--) {
-        unsigned at = RIKKOVAN_PLAN_CORE + draw(input) % (RIKKOVAN_PLAN_BYTES - RIKKOVAN_PLAN_CORE);
+    for (n = draw_one_in(input, 2) ? draw_below(input, 3) : 0; n > 0; n--) {
+        unsigned at = RIKKOVAN_PLAN_CORE;
 
-        plan[at] = (uint8_t)(draw(input) % (largest[at] + 1u));
+        at += draw_below(input, RIKKOVAN_PLAN_BYTES - RIKKOVAN_PLAN_CORE);
+        plan[at] = draw_below(input, largest[at] + 1u);
     }
     damage(input, plan, RIKKOVAN_PLAN_BYTES);
 }
@@ -190,8 +197,8 @@ void draw_plan(struct input *input, uint8_t plan[RIKKOVAN_PLAN_BYTES])
 static void draw_measurement(struct input *input, uint16_t pattern[3])
 {
     static const uint16_t differences[] = {0, 63, 64, 160, 161, 60000};
-    uint16_t difference = differences[draw(input) % 6];
-    int hrc_larger = draw(input) % 2;
+    uint16_t difference = differences[draw_below(input, COUNT(differences))];
+    int hrc_larger = draw_below(input, 2);
 
     pattern[0] = RIKKOVAN_READY;
     pattern[1] = (uint16_t)(1000 + (hrc_larger ? 0 : difference));
@@ -204,7 +211,7 @@ void draw_answers(struct input *input, uint16_t *answers, size_t len)
     uint16_t pattern[5] = {RIKKOVAN_READY, 0, 0, 0, 0};
     size_t period = 1, k, ready = MOST_LENT;
 
-    switch (draw(input) % 4) {
+    switch (draw_below(input, 4)) {
     case 1:
         pattern[0] = RIKKOVAN_NOT_READY;
         ready = draw_number(input, draw_one_in(input, 4) ? 2 : 1);

@@ -42,7 +42,7 @@ static void draw_lent(struct input *input, struct storage *storage, enum buffer 
         fill_past(storage->plan, RIKKOVAN_PLAN_BYTES, *len);
         break;
     case TASKS:
-        tasks = draw(input) % (RIKKOVAN_MOST_TASKS + 2u);
+        tasks = draw_below(input, RIKKOVAN_MOST_TASKS + 2u);
         *len = draw_length(input, tasks * RIKKOVAN_TASK_BYTES);
         draw_tasks(input, storage->tasks, (unsigned)tasks);
         fill_past(storage->tasks, tasks * RIKKOVAN_TASK_BYTES, *len);
@@ -53,7 +53,7 @@ static void draw_lent(struct input *input, struct storage *storage, enum buffer 
             storage->journal[k] = 0xA5A50000u + (uint32_t)k;
         break;
     case ANSWERS:
-        *len = draw_length(input, draw_one_in(input, 4) ? draw(input) % 48 : 48);
+        *len = draw_length(input, draw_one_in(input, 4) ? draw_below(input, 48) : 48);
         draw_answers(input, storage->answers, *len);
         break;
     default: break;
@@ -62,9 +62,9 @@ static void draw_lent(struct input *input, struct storage *storage, enum buffer 
 
 static void draw_numbers(struct input *input, enum which which, struct lent *lent)
 {
-    lent->byte[0] = draw(input) % (draw_one_in(input, 4) ? 256 : RIKKOVAN_MOST_TASKS + 2);
-    lent->byte[1] = draw(input) % (draw_one_in(input, 4) ? 16 : 2);
-    lent->byte[2] = draw(input) % 16;
+    lent->byte[0] = draw_below(input, draw_one_in(input, 4) ? 256 : RIKKOVAN_MOST_TASKS + 2);
+    lent->byte[1] = draw_below(input, draw_one_in(input, 4) ? 16 : 2);
+    lent->byte[2] = draw_below(input, 16);
     lent->number[0] = draw_number(input, draw_one_in(input, 8) ? 4 : 3);
     lent->number[1] = draw_number(input, 3) % (RIKKOVAN_MOST_PERIOD_US + 2);
     if (which == CONFIG_LPSYS && !draw_one_in(input, 16))
@@ -75,7 +75,7 @@ static void draw_numbers(struct input *input, enum which which, struct lent *len
 static void make_call(struct input *input, uint8_t *head)
 {
     static struct storage before, after, again;
-    enum which which = (enum which)(draw(input) % CALLS);
+    enum which which = (enum which)draw_below(input, CALLS);
     const struct call *call = &calls[which];
     struct lent given = lent_from(&before), left = lent_from(&after), other = lent_from(&again);
     uint64_t answer;
