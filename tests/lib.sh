@@ -27,6 +27,11 @@ check_with() { # NEEDED NAME COMMAND..
     fi
 }
 
+# The calls that the header declares.
+header_calls() {
+    sed -n 's/^uint64_t \(rikkovan_[a-z0-9_]*\)(.*/\1/p' include/rikkovan.h | sort
+}
+
 # The last line of the tests.
 all_passed() {
     [ "$failures" -eq 0 ] || {

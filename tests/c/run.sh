@@ -35,6 +35,10 @@ calls() { # FILE, without .c
             "$cxx" -std=c++11 "${strict[@]}" -Iinclude -x c++ "tests/c/$1.c" -x none "$library"
 }
 
+library_has_every_call() {
+    diff <(header_calls) <(nm -g --defined-only "$library" | sed -n 's/.* T \(rikkovan_.*\)/\1/p' | sort)
+}
+
 plans_are_made_again() {
     tools/make-plans.sh "$work/plans" && diff -r "$work/plans" examples/plans
 }
@@ -130,8 +134,7 @@ installed_daemon() (
 )
 
 man_page_has_every_call() {
-    diff <(sed -n 's/^uint64_t \(rikkovan_[a-z0-9_]*\)(.*/\1/p' include/rikkovan.h | sort) \
-        <(sed -n 's/^\.It Fn //p' man/rikkovan.3 | sort)
+    diff <(header_calls) <(sed -n 's/^\.It Fn //p' man/rikkovan.3 | sort)
 }
 
 # The formatter writes nothing but warnings.
@@ -147,6 +150,7 @@ check 'header as C99' header_as_c c99
 check 'header as C11' header_as_c c11
 check 'header as C++11' header_as_cxx c++11
 check 'header as C++17' header_as_cxx c++17
+check_with nm 'the library exports the calls of the header and no other' library_has_every_call
 check 'names and small functions of the header' calls helpers
 check 'plan check' calls plan_check
 check 'readings' calls readings

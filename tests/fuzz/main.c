@@ -1,6 +1,6 @@
 /*
  * fuzz [--runs N] [--seed S]: makes and checks N inputs that follow from the seed, and counts the
- * answers. fuzz --input HEX: one input.
+ * answers. fuzz --input HEX: one input, in this process, which it ends where it fails.
  *
  * The inputs run in a process of their own. One that ends it is made small, by processes too, and
  * printed. Exit status: 0 all passed; 1 an input failed; 2 the arguments are wrong.
@@ -202,24 +202,30 @@ static int run_input(const char *hex)
     return fuzz_one(bytes.at, bytes.size);
 }
 
+static int reads_number(const char *text, uint64_t *number)
+{
+    char *end;
+
+    *number = strtoull(text, &end, 10);
+    return *text >= '0' && *text <= '9' && *end == '\0';
+}
+
 int main(int argc, char **argv)
 {
     uint64_t runs = 1000000, seed = 1;
-    int i, status = argc % 2 == 1 ? 0 : 2;
+    int i, is_good = argc % 2 == 1;
 
+    if (argc == 3 && strcmp(argv[1], "--input") == 0)
+        return run_input(argv[2]);
     for (i = 1; i + 1 < argc; i += 2) {
         if (strcmp(argv[i], "--runs") == 0)
-            runs = strtoull(argv[i + 1], NULL, 10);
-        else if (strcmp(argv[i], "--seed") == 0)
-            seed = strtoull(argv[i + 1], NULL, 10);
-        else if (strcmp(argv[i], "--input") == 0 && argc == 3)
-            return run_input(argv[i + 1]);
+            is_good &= reads_number(argv[i + 1], &runs) && runs > 0;
         else
-            status = 2;
+            is_good &= strcmp(argv[i], "--seed") == 0 && reads_number(argv[i + 1], &seed);
     }
-    if (status == 2) {
+    if (!is_good) {
         fprintf(stderr, "usage: fuzz [--runs N] [--seed S] | --input HEX\n");
-        return status;
+        return 2;
     }
     return run_all(argv[0], runs, seed);
 }

@@ -18,7 +18,7 @@ hostile_calls() {
 }
 
 makes_every_call() {
-    diff <(sed -n 's/^uint64_t \(rikkovan_[a-z0-9_]*\)(.*/\1/p' include/rikkovan.h | sort) \
+    diff <(header_calls) \
         <(sed -n 's/^\(rikkovan_[a-z0-9_]*\) .* calls, .*/\1/p' "$work/counts" | sort)
 }
 
