@@ -63,10 +63,12 @@ static void draw_lent(struct input *input, struct storage *storage, enum buffer 
 static void draw_numbers(struct input *input, enum which which, struct lent *lent)
 {
     lent->byte[0] = draw_below(input, draw_one_in(input, 4) ? 256 : RIKKOVAN_MOST_TASKS + 2);
-    lent->byte[1] = draw_below(input, draw_one_in(input, 4) ? 16 : 2);
-    lent->byte[2] = draw_below(input, 16);
+    lent->byte[1] = draw_below(input, draw_one_in(input, 4) ? 256 : 2);
+    lent->byte[2] = draw_below(input, draw_one_in(input, 4) ? 256 : RIKKOVAN_MOST_PDIV + 2);
     lent->number[0] = draw_number(input, draw_one_in(input, 8) ? 4 : 3);
-    lent->number[1] = draw_number(input, 3) % (RIKKOVAN_MOST_PERIOD_US + 2);
+    lent->number[1] = draw_number(input, 4);
+    if (!draw_one_in(input, 16))
+        lent->number[1] %= RIKKOVAN_MOST_PERIOD_US + 2;
     if (which == CONFIG_LPSYS && !draw_one_in(input, 16))
         lent->number[0] %= RIKKOVAN_LPSYS_MOST_MHZ + 2;
 }
