@@ -1,6 +1,6 @@
 #!/usr/bin/env bash
 # Tests the header, the library and the daemon, and what make install writes. Run by `make test-c`,
-# which builds the library and the daemon first. Prints a line for each test.
+# which builds the library, the daemon and the programs first. Prints a line for each test.
 set -uo pipefail
 cd "$(dirname "$0")/../.." || exit
 unset MAKEFLAGS
@@ -36,7 +36,8 @@ calls() { # FILE, without .c
 }
 
 library_has_every_call() {
-    diff <(header_calls) <(nm -g --defined-only "$library" | sed -n 's/.* T \(rikkovan_.*\)/\1/p' | sort)
+    diff <(header_calls) \
+        <(nm -g --defined-only "$library" | sed -n 's/.* T \(rikkovan_.*\)/\1/p' | sort)
 }
 
 plans_are_made_again() {
