@@ -7,26 +7,33 @@ VERSION = 0.1.0
 CC = cc
 CXX = g++
 CFLAGS = -O2
-STRICT = -Wall -Wextra -pedantic -Werror
+STRICT = -Wall -Wextra -pedantic -Wconversion -Wsign-conversion -Werror
 RT = rt
 BUILD_ORACLE = cargo build --release --quiet --offline --manifest-path oracle/Cargo.toml
 ORACLE = oracle/target/release/oracle
+RUNS = 2000000
+SEED = $(shell date +%s)
+SANITIZE = -O1 -g -fsanitize=address,undefined -fno-sanitize-recover=all
 
 LIBRARY = target/staticlib/librikkovan.a
+PROGRAMS = target/bin/lpset target/bin/moments
 SOURCES = crates.txt $(shell find crates -name '*.rt' -o -name '*.antt')
+FUZZ = $(filter-out %/faults.c,$(wildcard tests/fuzz/*.c))
 PLANS = $(sort $(wildcard examples/plans/*.plan))
 TASKS = $(sort $(wildcard examples/tasks/*.tasks))
 
 .DELETE_ON_ERROR:
-.PHONY: help lib run test test-c test-rust oracle oracle-library compare compare-quick compare-plans compare-heads record bench plans tasks heads install clean
+.PHONY: help lib run test test-c test-rust test-fuzz fuzz oracle oracle-library compare compare-quick compare-plans compare-heads record bench plans tasks heads install uninstall clean
 
 help:
 	@echo 'make run            prove the library, then check the example plans and tasks through it'
 	@echo 'make test           the whole test, with every proof'
 	@echo 'make lib            prove the library and write $(LIBRARY)'
-	@echo 'make install        install it, with its header (PREFIX=$(PREFIX), DESTDIR)'
+	@echo 'make install        install it, with header, programs and man pages (PREFIX=$(PREFIX), DESTDIR)'
+	@echo 'make uninstall      remove what make install wrote'
 	@echo 'make test-c         test the library from C and C++'
 	@echo 'make test-rust      test the library from Rust, through bindings/rust'
+	@echo 'make fuzz           make hostile calls under the sanitizers (RUNS=$(RUNS), SEED)'
 	@echo 'make compare        compare the library with the Rust (compare-quick: a part of it)'
 	@echo 'make record         write crates/replay/data anew from the Rust'
 	@echo 'make bench          measure the library and the Rust'
@@ -42,8 +49,8 @@ build/daemon: examples/daemon.c include/rikkovan.h $(LIBRARY)
 	@mkdir -p build
 	$(CC) -std=c99 $(STRICT) $(CFLAGS) -Iinclude -o $@ examples/daemon.c $(LIBRARY)
 
-target/bin/moments: $(SOURCES)
-	$(RT) check moments
+$(PROGRAMS): target/bin/%: $(SOURCES)
+	$(RT) check $*
 
 # Some of the files are refused on purpose, and the daemon's status is then 1.
 run: build/daemon target/bin/moments
@@ -56,11 +63,25 @@ run: build/daemon target/bin/moments
 test:
 	@tools/test.sh
 
-test-c: build/daemon
+test-c: build/daemon $(PROGRAMS)
 	@CC='$(CC)' CXX='$(CXX)' tests/c/run.sh
 
 test-rust: $(LIBRARY)
 	cargo test -j1 --quiet --offline --manifest-path bindings/rust/Cargo.toml
+
+build/fuzz: $(FUZZ) tests/fuzz/fuzz.h include/rikkovan.h $(LIBRARY)
+	@mkdir -p build
+	$(CC) -std=c99 $(STRICT) $(SANITIZE) -Iinclude -o $@ $(FUZZ) $(LIBRARY)
+
+build/fuzz-faults: tests/fuzz/faults.c build/fuzz
+	$(CC) -std=c99 $(STRICT) $(SANITIZE) -Iinclude -Wl,--wrap=rikkovan_change -o $@ \
+		$(FUZZ) tests/fuzz/faults.c $(LIBRARY)
+
+fuzz: build/fuzz
+	build/fuzz --runs $(RUNS) --seed $(SEED)
+
+test-fuzz: $(LIBRARY)
+	@CC='$(CC)' tests/fuzz/run.sh
 
 oracle-library:
 	$(BUILD_ORACLE) --lib
@@ -96,12 +117,23 @@ tasks:
 heads:
 	tools/make-heads.sh
 
-install: $(LIBRARY)
-	install -d '$(DESTDIR)$(PREFIX)/include' '$(DESTDIR)$(PREFIX)/lib/pkgconfig'
-	install -m 644 include/rikkovan.h '$(DESTDIR)$(PREFIX)/include'
-	install -m 644 $(LIBRARY) '$(DESTDIR)$(PREFIX)/lib'
+ROOT = $(DESTDIR)$(PREFIX)
+INSTALLED = include/rikkovan.h lib/librikkovan.a lib/pkgconfig/rikkovan.pc bin/lpset bin/moments \
+	share/man/man1/lpset.1 share/man/man1/moments.1 share/man/man3/rikkovan.3
+
+install: $(LIBRARY) $(PROGRAMS)
+	install -d $(patsubst %/,'$(ROOT)/%',$(sort $(dir $(INSTALLED))))
+	install -m 644 include/rikkovan.h '$(ROOT)/include'
+	install -m 644 $(LIBRARY) '$(ROOT)/lib'
+	install -m 755 $(PROGRAMS) '$(ROOT)/bin'
+	install -m 644 man/lpset.1 man/moments.1 '$(ROOT)/share/man/man1'
+	install -m 644 man/rikkovan.3 '$(ROOT)/share/man/man3'
 	sed -e 's|@PREFIX@|$(PREFIX)|' -e 's|@VERSION@|$(VERSION)|' tools/rikkovan.pc.in \
-		>'$(DESTDIR)$(PREFIX)/lib/pkgconfig/rikkovan.pc'
+		>'$(ROOT)/lib/pkgconfig/rikkovan.pc'
+
+# Folders stay, since others may use them.
+uninstall:
+	rm -f $(INSTALLED:%='$(ROOT)/%')
 
 clean:
 	rm -rf build target bindings/rust/target oracle/target

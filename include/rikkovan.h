@@ -12,7 +12,8 @@
  * else that is lent to the call. Nothing else is asked of the caller: every content and every
  * length gets one answer, and every call returns.
  *
- * 1 MHz is 1,000,000 Hz.
+ * Every number that a caller needs has a name here, and the small functions write and read the
+ * fields of records, entries and answers. They test nothing: what is put in must be in its range.
  */
 #ifndef RIKKOVAN_H
 #define RIKKOVAN_H
@@ -23,6 +24,36 @@
 #ifdef __cplusplus
 extern "C" {
 #endif
+
+/* Frequencies in Hz. */
+#define RIKKOVAN_MHZ 1000000
+#define RIKKOVAN_OSCILLATOR_HZ (48 * RIKKOVAN_MHZ) /* HRC48 and HXT48 */
+#define RIKKOVAN_DLL_STEP_HZ (24 * RIKKOVAN_MHZ)   /* DLL1 and DLL2, for each stage */
+#define RIKKOVAN_LRC10_HZ 100000
+#define RIKKOVAN_LRC32_HZ 32000
+
+/* Numbers of two and four bytes stand in a record with their high byte first. */
+static inline uint16_t rikkovan_get_16(const uint8_t *bytes)
+{
+    return (uint16_t)(bytes[0] << 8 | bytes[1]);
+}
+
+static inline uint32_t rikkovan_get_32(const uint8_t *bytes)
+{
+    return (uint32_t)rikkovan_get_16(bytes) << 16 | rikkovan_get_16(bytes + 2);
+}
+
+static inline void rikkovan_put_16(uint8_t *bytes, uint16_t number)
+{
+    bytes[0] = (uint8_t)(number >> 8);
+    bytes[1] = (uint8_t)(number & 0xFF);
+}
+
+static inline void rikkovan_put_32(uint8_t *bytes, uint32_t number)
+{
+    rikkovan_put_16(bytes, (uint16_t)(number >> 16));
+    rikkovan_put_16(bytes + 2, (uint16_t)(number & 0xFFFF));
+}
 
 /*
  * The plan record
@@ -40,7 +71,7 @@ extern "C" {
 #define RIKKOVAN_PLAN_BYTES 20
 
 /* The offset of each field in the record, and what it may hold. */
-#define RIKKOVAN_PLAN_LENGTH 0        /* 2 bytes, high byte first: 18, the bytes that follow */
+#define RIKKOVAN_PLAN_LENGTH 0        /* 2 bytes: 18, the bytes that follow */
 #define RIKKOVAN_PLAN_VERSION 2       /* 1 */
 #define RIKKOVAN_PLAN_CORE 3          /* core select: 0 HRC48, 1 HXT48, 2 DBL96, 3 DLL1 */
 #define RIKKOVAN_PLAN_HDIV 4          /* 0 to 255 */
@@ -74,6 +105,19 @@ extern "C" {
 #define RIKKOVAN_MPI_PERIPHERAL 0
 #define RIKKOVAN_MPI_DLL1 1
 #define RIKKOVAN_MPI_DLL2 2
+
+/* The largest values of fields that are not codes. */
+#define RIKKOVAN_MOST_PDIV 7
+#define RIKKOVAN_MOST_STAGE 15
+
+/* The stage of a DLL at a frequency in MHz, before halving: a multiple of 24, 24 to 384. */
+#define RIKKOVAN_STAGE_OF(mhz) ((mhz) * RIKKOVAN_MHZ / RIKKOVAN_DLL_STEP_HZ - 1)
+
+/* The frequency of a DLL in Hz. */
+static inline uint32_t rikkovan_dll_hz(uint8_t stage, uint8_t half)
+{
+    return RIKKOVAN_DLL_STEP_HZ * ((uint32_t)stage + 1) >> (half != 0);
+}
 
 /*
  * The default plan, as an initialiser:
@@ -125,35 +169,78 @@ uint64_t rikkovan_plan_check(const uint8_t *plan, size_t plan_len);
  *
  * A head record is the state of a detector head: its registers, its ready flags and its booked
  * tasks. It is lent as a buffer of 255 bytes. The record stands at the front; the bytes past it may
- * hold anything, and no call looks at them. Numbers of two and four bytes have their high
- * byte first.
+ * hold anything, and no call looks at them.
  */
 #define RIKKOVAN_HEAD_BYTES 255
+#define RIKKOVAN_TASK_BYTES 9
+#define RIKKOVAN_MOST_TASKS 16
+
+/*
+ * A head with all registers and flags 0 and no task, as an initialiser:
+ *
+ *   uint8_t head[RIKKOVAN_HEAD_BYTES] = RIKKOVAN_EMPTY_HEAD;
+ */
+#define RIKKOVAN_EMPTY_HEAD { 0, RIKKOVAN_HEAD_FOLLOWING(0), 1 }
+
+/* The length field of a head with so many tasks: the bytes that follow it. */
+#define RIKKOVAN_HEAD_FOLLOWING(tasks) (109 + RIKKOVAN_TASK_BYTES * (tasks))
 
 /* The offset of each part in the buffer, and what it may hold. */
-#define RIKKOVAN_HEAD_LENGTH 0                /* 2 bytes: 109 + 9 * tasks, the bytes that follow */
-#define RIKKOVAN_HEAD_VERSION 2               /* 1 */
-#define RIKKOVAN_HEAD_A(reg) (3 * (reg))      /* byte a of the register of a number, 1 to 34 */
-#define RIKKOVAN_HEAD_B(reg) (3 * (reg) + 1)  /* byte b */
-#define RIKKOVAN_HEAD_C(reg) (3 * (reg) + 2)  /* byte c */
-#define RIKKOVAN_HEAD_HXT48_READY 105         /* 0 or 1 */
-#define RIKKOVAN_HEAD_HRC48_READY 106         /* 0 or 1 */
-#define RIKKOVAN_HEAD_LPSYS_HXT48_READY 107   /* 0 or 1; no frequency depends on it */
-#define RIKKOVAN_HEAD_BOOT_MODE 108           /* 0 to 255 */
-#define RIKKOVAN_HEAD_WAKE_COUNT 109          /* 0 to 255 */
-#define RIKKOVAN_HEAD_TASKS 110               /* the number of tasks, 0 to 16 */
-#define RIKKOVAN_HEAD_TASK(k) (111 + 9 * (k)) /* the task at place k, 0 to 15 */
+#define RIKKOVAN_HEAD_LENGTH 0               /* 2 bytes: RIKKOVAN_HEAD_FOLLOWING(tasks) */
+#define RIKKOVAN_HEAD_VERSION 2              /* 1 */
+#define RIKKOVAN_HEAD_A(reg) (3 * (reg))     /* byte a of the register of a number, 1 to 34 */
+#define RIKKOVAN_HEAD_B(reg) (3 * (reg) + 1) /* byte b */
+#define RIKKOVAN_HEAD_C(reg) (3 * (reg) + 2) /* byte c */
+#define RIKKOVAN_HEAD_HXT48_READY 105        /* RIKKOVAN_READY or RIKKOVAN_NOT_READY */
+#define RIKKOVAN_HEAD_HRC48_READY 106        /* the same */
+#define RIKKOVAN_HEAD_LPSYS_HXT48_READY 107  /* the same; no frequency depends on it */
+#define RIKKOVAN_HEAD_BOOT_MODE 108          /* 0 to 255; RIKKOVAN_BOOT_STANDBY has a meaning */
+#define RIKKOVAN_HEAD_WAKE_COUNT 109         /* 0 to 255 */
+#define RIKKOVAN_HEAD_TASKS 110              /* the number of tasks, 0 to 16 */
+#define RIKKOVAN_HEAD_TASK(k) (111 + RIKKOVAN_TASK_BYTES * (k)) /* the task at place k, 0 to 15 */
+
+#define RIKKOVAN_NOT_READY 0
+#define RIKKOVAN_READY 1
+#define RIKKOVAN_BOOT_STANDBY 3
 
 /* The offset of each field in a task, and what it may hold. */
 #define RIKKOVAN_TASK_ID 0     /* 1 to 255, no two tasks of a head alike */
 #define RIKKOVAN_TASK_CYCLES 1 /* 4 bytes: core cycles in each period, 1 or more */
-#define RIKKOVAN_TASK_PERIOD 5 /* 4 bytes: microseconds, 1 to 10,000,000 */
+#define RIKKOVAN_TASK_PERIOD 5 /* 4 bytes: microseconds, 1 to RIKKOVAN_MOST_PERIOD_US */
+
+#define RIKKOVAN_MOST_PERIOD_US 10000000
+
+/* Writes a task's record. */
+static inline void rikkovan_put_task(uint8_t task[RIKKOVAN_TASK_BYTES], uint8_t id, uint32_t cycles,
+                                     uint32_t period_us)
+{
+    task[RIKKOVAN_TASK_ID] = id;
+    rikkovan_put_32(task + RIKKOVAN_TASK_CYCLES, cycles);
+    rikkovan_put_32(task + RIKKOVAN_TASK_PERIOD, period_us);
+}
+
+static inline uint32_t rikkovan_task_cycles(const uint8_t task[RIKKOVAN_TASK_BYTES])
+{
+    return rikkovan_get_32(task + RIKKOVAN_TASK_CYCLES);
+}
+
+static inline uint32_t rikkovan_task_period_us(const uint8_t task[RIKKOVAN_TASK_BYTES])
+{
+    return rikkovan_get_32(task + RIKKOVAN_TASK_PERIOD);
+}
+
+/* Writes the number of a head's tasks, and the length field that fits it. */
+static inline void rikkovan_put_task_count(uint8_t *head, uint8_t tasks)
+{
+    head[RIKKOVAN_HEAD_TASKS] = tasks;
+    rikkovan_put_16(head + RIKKOVAN_HEAD_LENGTH, (uint16_t)RIKKOVAN_HEAD_FOLLOWING(tasks));
+}
 
 /*
  * The registers by number. Each has the three bytes a, b, c; a byte that is not named is 0. A byte
  * that says on or request is 0 or 1. Of two fields in one byte the first is its high half. The
- * codes of core select, flash, peripheral clock and USB source are those of a plan; flash has one
- * more.
+ * codes of core select, flash, peripheral clock, USB source and low-power select (the watchdog
+ * clock) are those of a plan; flash has one more.
  */
 #define RIKKOVAN_REG_SYSCLK 1                  /* c: core select */
 #define RIKKOVAN_REG_HPSYS_CFGR 2              /* a: hdiv 0 to 255; b: pdiv1, c: pdiv2, 0 to 7 */
@@ -164,9 +251,9 @@ uint64_t rikkovan_plan_check(const uint8_t *plan, size_t plan_len);
 #define RIKKOVAN_REG_USB_SOURCE 7              /* c: USB source */
 #define RIKKOVAN_REG_USB_DIVIDER 8             /* c: 0 to 7 */
 #define RIKKOVAN_REG_TICK 9                    /* 0 */
-#define RIKKOVAN_REG_LOW_POWER 10              /* c: low-power select: 0 LRC10, 1 LRC32 */
+#define RIKKOVAN_REG_LOW_POWER 10              /* c: low-power select */
 #define RIKKOVAN_REG_HPBG 11                   /* b: hpbg_en on; c: hpbg_vddpsw_en on */
-#define RIKKOVAN_REG_HPSYS_SUPPLY 12           /* c: 0 S, 1 D */
+#define RIKKOVAN_REG_HPSYS_SUPPLY 12           /* c: RIKKOVAN_HPSYS_SUPPLY_S or _D */
 #define RIKKOVAN_REG_BUCK_VOUT 13              /* c: 0 to 15 */
 #define RIKKOVAN_REG_HPSYS_VOUT 14             /* c: 0 to 15 */
 #define RIKKOVAN_REG_SET_VOUT_M 15             /* c: 0 to 15 */
@@ -179,19 +266,51 @@ uint64_t rikkovan_plan_check(const uint8_t *plan, size_t plan_len);
 #define RIKKOVAN_REG_HXT48_REQUEST 22          /* c: request */
 #define RIKKOVAN_REG_LRC32_ON 23               /* c: on */
 #define RIKKOVAN_REG_DLL_BUFFER_ON 24          /* c: on */
-#define RIKKOVAN_REG_LPSYS_SYSCLK 25           /* c: LPSYS select: 0 HRC48, 1 HXT48 */
+#define RIKKOVAN_REG_LPSYS_SYSCLK 25           /* c: RIKKOVAN_LPSYS_HRC48 or _HXT48 */
 #define RIKKOVAN_REG_LPSYS_CFGR 26             /* a: hdiv1 0 to 255; b: pdiv1, c: pdiv2, 0 to 7 */
-#define RIKKOVAN_REG_LPSYS_PERI 27             /* c: LPSYS peripheral clock: 0 HRC48, 1 HXT48 */
-#define RIKKOVAN_REG_LPSYS_SUPPLY 28           /* c: 0 D, 1 S */
+#define RIKKOVAN_REG_LPSYS_PERI 27             /* c: the same, for LPSYS peripherals */
+#define RIKKOVAN_REG_LPSYS_SUPPLY 28           /* c: RIKKOVAN_LPSYS_SUPPLY_D or _S */
 #define RIKKOVAN_REG_LPSYS_VOUT 29             /* c: 0 to 15 */
 #define RIKKOVAN_REG_LPSYS_LDO 30              /* c: vref, 0 to 15 */
 #define RIKKOVAN_REG_LPSYS_TIMING 31           /* as the HPSYS timing */
 #define RIKKOVAN_REG_LPSYS_HXT48_REQUEST 32    /* c: request */
 #define RIKKOVAN_REG_HP2LP_REQUEST 33          /* c: request */
 #define RIKKOVAN_REG_LPSYS_MAC 34              /* b: macdiv, c: macfreq, 0 to 255 */
+#define RIKKOVAN_REGISTERS 34
 
 /* The flash code that no plan has. */
 #define RIKKOVAN_MPI_RESERVED 3
+
+/* The supplies. The codes of the two systems are the reverse of each other. */
+#define RIKKOVAN_HPSYS_SUPPLY_S 0
+#define RIKKOVAN_HPSYS_SUPPLY_D 1
+#define RIKKOVAN_LPSYS_SUPPLY_D 0
+#define RIKKOVAN_LPSYS_SUPPLY_S 1
+
+/* The clocks of LPSYS and its peripherals. */
+#define RIKKOVAN_LPSYS_HRC48 0
+#define RIKKOVAN_LPSYS_HXT48 1
+
+/* The largest values of fields that no plan has. */
+#define RIKKOVAN_MOST_USB_DIVIDER 7
+#define RIKKOVAN_MOST_VOLTAGE 15 /* of registers 13 to 16, 29 and 30 */
+#define RIKKOVAN_MOST_TRIM 1023
+
+/* What a register holds, as one number; and the same read from a head and written into it. */
+#define RIKKOVAN_VALUE(a, b, c) ((uint32_t)(a) << 16 | (uint32_t)(b) << 8 | (uint32_t)(c))
+
+static inline uint32_t rikkovan_register(const uint8_t *head, uint32_t reg)
+{
+    return RIKKOVAN_VALUE(head[RIKKOVAN_HEAD_A(reg)], head[RIKKOVAN_HEAD_B(reg)],
+                          head[RIKKOVAN_HEAD_C(reg)]);
+}
+
+static inline void rikkovan_put_register(uint8_t *head, uint32_t reg, uint32_t value)
+{
+    head[RIKKOVAN_HEAD_A(reg)] = (uint8_t)(value >> 16 & 0xFF);
+    head[RIKKOVAN_HEAD_B(reg)] = (uint8_t)(value >> 8 & 0xFF);
+    head[RIKKOVAN_HEAD_C(reg)] = (uint8_t)(value & 0xFF);
+}
 
 /*
  * What a call on a head answers
@@ -210,7 +329,7 @@ uint64_t rikkovan_plan_check(const uint8_t *plan, size_t plan_len);
  * A head is refused, by the first of these tests that fails, with
  *
  *   RIKKOVAN_REFUSED_LENGTH   head_len is not 255, there are more than 16 tasks, or the length
- *                             field is not 109 + 9 * tasks
+ *                             field is not that of so many
  *   RIKKOVAN_REFUSED_VERSION  the version is not 1
  *   RIKKOVAN_REFUSED_CODE     a register, ready flag or task holds what it may not hold, or two
  *                             tasks have one id
@@ -324,7 +443,7 @@ uint64_t rikkovan_read_lpsys(const uint8_t *head, size_t head_len,
  *
  * where number and value are
  *
- *   1 to 34   a register, and what it holds after the store: a * 65,536 + b * 256 + c
+ *   1 to 34   a register, and what it holds after the store, as RIKKOVAN_VALUE has it
  *   48        a delay, and its length in core cycles: microseconds times the HCLK of that moment
  *             in Hz, divided by 1,000,000, rounded down
  *
@@ -345,7 +464,7 @@ uint64_t rikkovan_read_lpsys(const uint8_t *head, size_t head_len,
 #define RIKKOVAN_REFUSED_JOURNAL 17         /* journal_len is below 128 */
 #define RIKKOVAN_REFUSED_HCLK_UNREADABLE 34 /* HCLK reads as none at a delay or a booking */
 
-/* The number of an entry: a register, or RIKKOVAN_ENTRY_DELAY. */
+/* The number of an entry: a register, RIKKOVAN_ENTRY_DELAY or RIKKOVAN_ENTRY_WAIT. */
 static inline uint32_t rikkovan_entry_number(uint32_t entry)
 {
     return entry >> 24;
@@ -357,6 +476,27 @@ static inline uint32_t rikkovan_entry_value(uint32_t entry)
     return entry & 0xFFFFFF;
 }
 
+/* An entry, from its number and value. */
+#define RIKKOVAN_ENTRY(number, value) ((uint32_t)(number) << 24 | (uint32_t)(value))
+
+/* Whether an entry is a store: 0 or 1. */
+static inline int rikkovan_is_store(uint32_t entry)
+{
+    uint32_t number = rikkovan_entry_number(entry);
+
+    return number >= 1 && number <= RIKKOVAN_REGISTERS;
+}
+
+/*
+ * Puts an entry into the registers of a head; only a store changes them. The head that a call got,
+ * with its first entries put in one after the other, has the registers of that moment.
+ */
+static inline void rikkovan_put_entry(uint8_t *head, uint32_t entry)
+{
+    if (rikkovan_is_store(entry))
+        rikkovan_put_register(head, rikkovan_entry_number(entry), rikkovan_entry_value(entry));
+}
+
 /*
  * LPSYS
  * =====
@@ -364,10 +504,8 @@ static inline uint32_t rikkovan_entry_value(uint32_t entry)
  * The low-power system runs on 48 MHz, divided by its hdiv1, where 0 divides by 1. Above 24 MHz it
  * needs supply S.
  */
-#define RIKKOVAN_LPSYS_HRC48 0
-#define RIKKOVAN_LPSYS_HXT48 1
-#define RIKKOVAN_LPSYS_SUPPLY_D 0
-#define RIKKOVAN_LPSYS_SUPPLY_S 1
+#define RIKKOVAN_LPSYS_MOST_MHZ 48                   /* the highest request */
+#define RIKKOVAN_LPSYS_D_MOST_HZ (24 * RIKKOVAN_MHZ) /* the highest LPSYS HCLK on supply D */
 
 #define RIKKOVAN_REFUSED_LPSYS_REQUEST 15 /* freq_mhz is 0 or above 48 */
 
@@ -376,7 +514,7 @@ static inline uint32_t rikkovan_entry_value(uint32_t entry)
  *
  *   head         the buffer with the record
  *   head_len     the number of bytes at head
- *   freq_mhz     the frequency in MHz, 1 to 48
+ *   freq_mhz     the frequency in MHz, 1 to RIKKOVAN_LPSYS_MOST_MHZ
  *   journal      gets the entries, at most 4
  *   journal_len  the number of words at journal, 128 or more
  *
@@ -392,8 +530,9 @@ static inline uint32_t rikkovan_entry_value(uint32_t entry)
  *
  * LPSYS_CFGR keeps its pdiv1 and pdiv2.
  *
- * Refusals: RIKKOVAN_REFUSED_JOURNAL, the head's, RIKKOVAN_REFUSED_LPSYS_REQUEST, and upwards
- * RIKKOVAN_REFUSED_HCLK_UNREADABLE, which keeps the two stores before the delay.
+ * Refusals, in this order: RIKKOVAN_REFUSED_JOURNAL, the head's, RIKKOVAN_REFUSED_LPSYS_REQUEST;
+ * they change nothing. Upwards RIKKOVAN_REFUSED_HCLK_UNREADABLE, which keeps the two stores before
+ * the delay.
  */
 uint64_t rikkovan_config_lpsys_hclk_mhz(uint8_t *head, size_t head_len, uint32_t freq_mhz,
                                         uint32_t *journal, size_t journal_len);
@@ -408,7 +547,8 @@ uint64_t rikkovan_config_lpsys_hclk_mhz(uint8_t *head, size_t head_len, uint32_t
  *
  * The value is the LPSYS HCLK before the call, in Hz.
  *
- * Refusals: RIKKOVAN_REFUSED_JOURNAL, the head's, RIKKOVAN_REFUSED_LPSYS_HCLK_UNREADABLE.
+ * Refusals, in this order: RIKKOVAN_REFUSED_JOURNAL, the head's,
+ * RIKKOVAN_REFUSED_LPSYS_HCLK_UNREADABLE; they change nothing.
  */
 uint64_t rikkovan_ensure_safe_lcpu_frequency(uint8_t *head, size_t head_len, uint32_t *journal,
                                              size_t journal_len);
@@ -422,8 +562,10 @@ uint64_t rikkovan_ensure_safe_lcpu_frequency(uint8_t *head, size_t head_len, uin
  *   select_lpsys_sysclk     LPSYS_SYSCLK: RIKKOVAN_LPSYS_HRC48 or RIKKOVAN_LPSYS_HXT48
  *   select_lpsys_peri       LPSYS_PERI: the same
  *
- * Refusals: RIKKOVAN_REFUSED_JOURNAL, the head's, and RIKKOVAN_REFUSED_CODE for a pdiv1 or pdiv2
- * above 7 or a source above 1.
+ *   head, head_len, journal, journal_len  as above; 1 entry
+ *
+ * Refusals, in this order: RIKKOVAN_REFUSED_JOURNAL, the head's, and RIKKOVAN_REFUSED_CODE for a
+ * pdiv1 or pdiv2 above 7 or a source above 1; they change nothing.
  */
 uint64_t rikkovan_set_lpsys_hdiv(uint8_t *head, size_t head_len, uint8_t hdiv, uint32_t *journal,
                                  size_t journal_len);
@@ -442,7 +584,7 @@ uint64_t rikkovan_select_lpsys_peri(uint8_t *head, size_t head_len, uint8_t sour
  *
  *   head, head_len, journal, journal_len  as above; at most 1 entry
  *
- * Refusals: RIKKOVAN_REFUSED_JOURNAL, the head's.
+ * Refusals, in this order: RIKKOVAN_REFUSED_JOURNAL, the head's; they change nothing.
  */
 uint64_t rikkovan_cancel_lcpu_active_request(uint8_t *head, size_t head_len, uint32_t *journal,
                                              size_t journal_len);
@@ -451,9 +593,9 @@ uint64_t rikkovan_cancel_lcpu_active_request(uint8_t *head, size_t head_len, uin
  * The answers
  * ===========
  *
- * A call that waits for the chip is lent answers, each the reading of one poll: 0 for not ready,
- * any other for ready. A wait takes them in turn, up to the first that is ready, and the next wait
- * goes on behind it. A wait that ended is an entry of number 49 whose value is
+ * A call that waits for the chip is lent answers, each the reading of one poll: RIKKOVAN_NOT_READY,
+ * which is 0, or any other for ready. A wait takes them in turn, up to the first that is ready, and
+ * the next wait goes on behind it. A wait that ended is an entry of number 49 whose value is
  *
  *   kind * 65,536 + the number of answers that this wait took
  *
@@ -476,6 +618,19 @@ uint64_t rikkovan_cancel_lcpu_active_request(uint8_t *head, size_t head_len, uin
 #define RIKKOVAN_WAIT_CALIBRATION 5
 #define RIKKOVAN_WAIT_LPSYS_ACTIVE 6
 
+/* The value of a wait's entry, and what a wait's entry tells: its kind, the answers it took. */
+#define RIKKOVAN_WAIT_VALUE(kind, taken) ((uint32_t)(kind) << 16 | (uint32_t)(taken))
+
+static inline uint32_t rikkovan_wait_kind(uint32_t entry)
+{
+    return rikkovan_entry_value(entry) >> 16;
+}
+
+static inline uint32_t rikkovan_wait_taken(uint32_t entry)
+{
+    return entry & 0xFFFF;
+}
+
 #define RIKKOVAN_REFUSED_ANSWERS 18         /* answers_len is above 4,096 */
 #define RIKKOVAN_REFUSED_ANSWERS_RAN_OUT 36 /* no answer is left, and the wait has not ended */
 
@@ -488,9 +643,9 @@ uint64_t rikkovan_cancel_lcpu_active_request(uint8_t *head, size_t head_len, uin
  *   answers                               the answers; they are only read
  *   answers_len                           their number, at most 4,096
  *
- * Refusals: RIKKOVAN_REFUSED_JOURNAL, RIKKOVAN_REFUSED_ANSWERS, the head's,
- * RIKKOVAN_REFUSED_HCLK_UNREADABLE and RIKKOVAN_REFUSED_ANSWERS_RAN_OUT. A refusal leaves the wake
- * count as it was.
+ * Refusals, in this order: RIKKOVAN_REFUSED_JOURNAL, RIKKOVAN_REFUSED_ANSWERS, the head's; they
+ * change nothing. With the stores made so far kept, RIKKOVAN_REFUSED_HCLK_UNREADABLE and
+ * RIKKOVAN_REFUSED_ANSWERS_RAN_OUT. A refusal leaves the wake count as it was.
  */
 uint64_t rikkovan_wake_lcpu(uint8_t *head, size_t head_len, uint32_t *journal, size_t journal_len,
                             const uint16_t *answers, size_t answers_len);
@@ -504,8 +659,9 @@ uint64_t rikkovan_wake_lcpu(uint8_t *head, size_t head_len, uint32_t *journal, s
  *   answers                               the answers; they are only read
  *   answers_len                           their number, at most 4,096
  *
- * Refusals: RIKKOVAN_REFUSED_JOURNAL, RIKKOVAN_REFUSED_ANSWERS, the head's and
- * RIKKOVAN_REFUSED_ANSWERS_RAN_OUT, which keeps a flag that was set before it.
+ * Refusals, in this order: RIKKOVAN_REFUSED_JOURNAL, RIKKOVAN_REFUSED_ANSWERS, the head's; they
+ * change nothing. RIKKOVAN_REFUSED_ANSWERS_RAN_OUT keeps the stores made so far, and a flag that
+ * was set before it.
  */
 uint64_t rikkovan_ensure_hxt48_ready(uint8_t *head, size_t head_len, uint32_t *journal,
                                      size_t journal_len, const uint16_t *answers,
@@ -525,6 +681,28 @@ uint64_t rikkovan_ensure_hxt48_ready(uint8_t *head, size_t head_len, uint32_t *j
 #define RIKKOVAN_REFUSED_PRESENT_HCLK 35    /* the HCLK before the change is above 240 MHz */
 
 /*
+ * An HCLK has a mode: the first of these whose highest HCLK it does not exceed. A mode has three
+ * values for its supply, D or S: buck, in SET_VOUT_M of D or BUCK_VOUT of S; ldo, in HPSYS_LDO of D
+ * or HPSYS_VOUT of S; and HPSYS_TIMING.
+ */
+#define RIKKOVAN_D0_MOST_HZ (24 * RIKKOVAN_MHZ)
+#define RIKKOVAN_D0_BUCK 9
+#define RIKKOVAN_D0_LDO 6
+#define RIKKOVAN_D0_TIMING 0x000160
+#define RIKKOVAN_D1_MOST_HZ (48 * RIKKOVAN_MHZ)
+#define RIKKOVAN_D1_BUCK 10
+#define RIKKOVAN_D1_LDO 8
+#define RIKKOVAN_D1_TIMING 0x001161
+#define RIKKOVAN_S0_MOST_HZ (144 * RIKKOVAN_MHZ)
+#define RIKKOVAN_S0_BUCK 13
+#define RIKKOVAN_S0_LDO 11
+#define RIKKOVAN_S0_TIMING 0x003043
+#define RIKKOVAN_S1_MOST_HZ (240 * RIKKOVAN_MHZ)
+#define RIKKOVAN_S1_BUCK 15
+#define RIKKOVAN_S1_LDO 13
+#define RIKKOVAN_S1_TIMING 0x003043
+
+/*
  * Calibrates HRC48 against HXT48.
  *
  *   head, head_len, journal, journal_len  as above; at most 57 entries
@@ -539,8 +717,8 @@ uint64_t rikkovan_ensure_hxt48_ready(uint8_t *head, size_t head_len, uint32_t *j
  * hxt_cnt is above hrc_cnt, else down by it, and the step is halved, rounded down. A turn whose
  * counts differ by less than 64 is the last one, and its trim stays.
  *
- * Refusals: RIKKOVAN_REFUSED_JOURNAL, RIKKOVAN_REFUSED_ANSWERS, the head's,
- * RIKKOVAN_REFUSED_HXT48_NOT_READY; and with what was done so far kept,
+ * Refusals, in this order: RIKKOVAN_REFUSED_JOURNAL, RIKKOVAN_REFUSED_ANSWERS, the head's,
+ * RIKKOVAN_REFUSED_HXT48_NOT_READY; they change nothing. With what was done so far kept,
  * RIKKOVAN_REFUSED_HCLK_UNREADABLE, RIKKOVAN_REFUSED_ANSWERS_RAN_OUT, and at the end
  * RIKKOVAN_REFUSED_DIFFERENCE, where the counts of the last turn differ by more than 160.
  */
@@ -561,7 +739,7 @@ uint64_t rikkovan_calibrate_hrc48(uint8_t *head, size_t head_len, uint32_t *jour
  *
  *   1. where the core is on HXT48, HXT48_REQUEST 1 and a wait of kind RIKKOVAN_WAIT_HXT48, which
  *      takes no answer where the ready flag is 1, and after which it is; then PERI 1. A head with
- *      boot mode 3, a standby boot, is done here.
+ *      boot mode RIKKOVAN_BOOT_STANDBY is done here.
  *   2. LRC32_ON 1, LOW_POWER 1, DLL_BUFFER_ON 1
  *   3. where the plan says calibrate: SYSCLK HXT48 if the core is on HRC48, and what
  *      rikkovan_calibrate_hrc48 does. Its 31 and 33 do not refuse init, but are its value.
@@ -576,10 +754,11 @@ uint64_t rikkovan_calibrate_hrc48(uint8_t *head, size_t head_len, uint32_t *jour
  *
  * The value is 0, or RIKKOVAN_REFUSED_HXT48_NOT_READY or RIKKOVAN_REFUSED_DIFFERENCE of step 3.
  *
- * Refusals: RIKKOVAN_REFUSED_JOURNAL, RIKKOVAN_REFUSED_ANSWERS, the head's, the plan's (1 to 14);
- * and with what was done so far kept, RIKKOVAN_REFUSED_ON_HRC48 at step 3, where the core is on
- * HRC48 and HXT48 is not ready, RIKKOVAN_REFUSED_PRESENT_HCLK at step 4,
- * RIKKOVAN_REFUSED_HCLK_UNREADABLE and RIKKOVAN_REFUSED_ANSWERS_RAN_OUT.
+ * Refusals, in this order: RIKKOVAN_REFUSED_JOURNAL, RIKKOVAN_REFUSED_ANSWERS, the head's, the
+ * plan's (1 to 14); they change neither head nor journal. With what was done so far kept,
+ * RIKKOVAN_REFUSED_ON_HRC48 at step 3, where the core is on HRC48 and HXT48 is not ready,
+ * RIKKOVAN_REFUSED_PRESENT_HCLK at step 4, RIKKOVAN_REFUSED_HCLK_UNREADABLE and
+ * RIKKOVAN_REFUSED_ANSWERS_RAN_OUT.
  */
 uint64_t rikkovan_init(uint8_t *head, size_t head_len, const uint8_t *plan, size_t plan_len,
                        uint32_t clocks[RIKKOVAN_CLOCKS], uint32_t *journal, size_t journal_len,
@@ -597,30 +776,23 @@ uint64_t rikkovan_init(uint8_t *head, size_t head_len, const uint8_t *plan, size
  *   journal, journal_len  as above; at most 14 entries
  *   answers, answers_len  as above
  *
- * An HCLK has a mode: D0 up to 24 MHz, D1 up to 48, S0 up to 144, S1 up to 240. The stores depend
- * on the mode of the HCLK before the call and on that of the plan's, and not on the supply. An HCLK
- * that reads as none counts as 48 MHz.
+ * The stores depend on the mode of the HCLK before the call and on that of the plan's, and not on
+ * the supply. An HCLK that reads as none counts as 48 MHz.
  *
  *   same mode   the clock
  *   D to S      BUCK_VOUT, HPSYS_VOUT, HPSYS_SUPPLY S, a delay of 250 us, HPSYS_TIMING, the clock
  *   S to S      BUCK_VOUT, HPSYS_VOUT, a delay of 250 us, the clock
  *   to D        SET_VOUT_M, HPSYS_LDO, the clock, HPSYS_TIMING, HPSYS_SUPPLY D
  *
- * The values are those of the plan's mode:
+ * The values are those of the plan's mode. The clock is: where the core is on DLL1, SYSCLK HXT48,
+ * or HRC48 if HXT48 is not ready; where the plan has DLL1, HPBG with hpbg_en on and HPBG with
+ * hpbg_vddpsw_en on, each if it is off, DLL1 off, DLL1 on with the plan's stage and half, a delay
+ * of 10 us and a wait of kind RIKKOVAN_WAIT_DLL1; then HPSYS_CFGR and SYSCLK as the plan has them.
  *
- *   D0   SET_VOUT_M 9, HPSYS_LDO 6, HPSYS_TIMING 0x000160
- *   D1   SET_VOUT_M 10, HPSYS_LDO 8, HPSYS_TIMING 0x001161
- *   S0   BUCK_VOUT 13, HPSYS_VOUT 11, HPSYS_TIMING 0x003043
- *   S1   BUCK_VOUT 15, HPSYS_VOUT 13, HPSYS_TIMING 0x003043
- *
- * The clock is: where the core is on DLL1, SYSCLK HXT48, or HRC48 if HXT48 is not ready; where the
- * plan has DLL1, HPBG with hpbg_en on and HPBG with hpbg_vddpsw_en on, each if it is off, DLL1 off,
- * DLL1 on with the plan's stage and half, a delay of 10 us and a wait of kind RIKKOVAN_WAIT_DLL1;
- * then HPSYS_CFGR and SYSCLK as the plan has them.
- *
- * Refusals: RIKKOVAN_REFUSED_JOURNAL, RIKKOVAN_REFUSED_ANSWERS, the head's, the plan's (1 to 14);
- * RIKKOVAN_REFUSED_PRESENT_HCLK, which comes before any store; and with what was done so far kept,
- * RIKKOVAN_REFUSED_HCLK_UNREADABLE and RIKKOVAN_REFUSED_ANSWERS_RAN_OUT.
+ * Refusals, in this order: RIKKOVAN_REFUSED_JOURNAL, RIKKOVAN_REFUSED_ANSWERS, the head's, the
+ * plan's (1 to 14), RIKKOVAN_REFUSED_PRESENT_HCLK, which comes before any store; they change
+ * nothing. With what was done so far kept in head and journal, RIKKOVAN_REFUSED_HCLK_UNREADABLE and
+ * RIKKOVAN_REFUSED_ANSWERS_RAN_OUT.
  */
 uint64_t rikkovan_reconfigure_sysclk(uint8_t *head, size_t head_len, const uint8_t *plan,
                                      size_t plan_len, uint32_t clocks[RIKKOVAN_CLOCKS],
@@ -631,17 +803,14 @@ uint64_t rikkovan_reconfigure_sysclk(uint8_t *head, size_t head_len, const uint8
  * Tasks
  * =====
  *
- * A task needs so many core cycles in each period. Its record is nine bytes: id, cycles and period,
- * as in a head. Its share is what it needs in a second,
+ * A task needs so many core cycles in each period. Its record is the nine bytes that it has in a
+ * head, as rikkovan_put_task writes them. Its share is what it needs in a second,
  *
  *   cycles * 1,000,000 / period, rounded up
  *
  * and the load of several tasks is the sum of their shares, in cycles per second. It can be carried
  * by an HCLK of that many Hz or more.
  */
-#define RIKKOVAN_TASK_BYTES 9
-#define RIKKOVAN_MOST_TASKS 16
-
 #define RIKKOVAN_REFUSED_TASK 16       /* id or cycles 0, or period outside 1 to 10,000,000 us */
 #define RIKKOVAN_REFUSED_LOAD 39       /* the load is above HCLK */
 #define RIKKOVAN_REFUSED_ID_IN_USE 40  /* another task has the id */
@@ -676,7 +845,7 @@ static inline uint64_t rikkovan_load(uint64_t answer)
  *   head_len   the number of bytes at head
  *   id         1 to 255, that of no booked task
  *   cycles     core cycles in each period, 1 or more
- *   period_us  the period in microseconds, 1 to 10,000,000
+ *   period_us  the period in microseconds, 1 to RIKKOVAN_MOST_PERIOD_US
  *
  * The task goes behind the last one, into bytes that were past the record: 9 bytes there, the
  * number of tasks and the length field change, and nothing else. HCLK is what rikkovan_read_clocks
@@ -715,10 +884,10 @@ uint64_t rikkovan_release(uint8_t *head, size_t head_len, uint8_t id);
  *
  * The rail limit of a head is the highest HCLK that its active supply carries:
  *
- *   supply D   48 MHz where SET_VOUT_M is at least 10 and HPSYS_LDO at least 8,
- *              24 MHz where they are at least 9 and 6
- *   supply S   240 MHz where BUCK_VOUT is at least 15 and HPSYS_VOUT at least 13,
- *              144 MHz where they are at least 13 and 11
+ *   supply D   the highest HCLK of D1 where SET_VOUT_M and HPSYS_LDO are each at least D1's value,
+ *              that of D0 where they are at least D0's
+ *   supply S   that of S1 where BUCK_VOUT and HPSYS_VOUT are each at least S1's value,
+ *              that of S0 where they are at least S0's
  *   else       0
  *
  * A head is fit where
@@ -726,7 +895,7 @@ uint64_t rikkovan_release(uint8_t *head, size_t head_len, uint8_t id);
  *   - HCLK reads, and is at most the rail limit,
  *   - no flash is on a DLL that is off,
  *   - the clock of the LPSYS select reads: HXT48_READY is 1, or HRC48_READY,
- *   - the LPSYS HCLK is at most 24 MHz, or the LPSYS supply is S.
+ *   - the LPSYS HCLK is at most RIKKOVAN_LPSYS_D_MOST_HZ, or the LPSYS supply is S.
  *
  * HCLK is what rikkovan_read_clocks gives, whatever the low-power select holds.
  */
@@ -741,10 +910,10 @@ uint64_t rikkovan_release(uint8_t *head, size_t head_len, uint8_t id);
  *   journal, journal_len  gets the entries, at most 20; and its number of words, 128 or more
  *   answers, answers_len  the answers, and their number, at most 4,096; they are only read
  *
- * Modes and their values are those of rikkovan_reconfigure_sysclk. The peak is the highest mode
- * among D1, that of the HCLK before the call and that of the plan's. The stores are, in this order:
+ * The peak is the highest mode among D1, that of the HCLK before the call and that of the plan's.
+ * The stores are, in this order:
  *
- *   1. where the rail limit is below the peak's, the peak's rails: for D0 and D1 SET_VOUT_M,
+ *   1. where the rail limit is below the peak's, the peak's rails: for D1 SET_VOUT_M,
  *      HPSYS_LDO and a delay of 250 us; for S0 and S1 BUCK_VOUT, HPSYS_VOUT, HPSYS_SUPPLY S, a
  *      delay of 250 us, HPSYS_TIMING
  *   2. where a flash is on DLL1, FLASH with that flash on the peripheral clock

@@ -18,6 +18,20 @@ check() { # NAME COMMAND..
     fi
 }
 
+# The same where a command is installed.
+check_with() { # NEEDED NAME COMMAND..
+    if command -v "$1" >/dev/null; then
+        check "${@:2}"
+    else
+        echo "$suite: skipped: $2 ($1 is not installed)"
+    fi
+}
+
+# The calls that the header declares.
+header_calls() {
+    sed -n 's/^uint64_t \(rikkovan_[a-z0-9_]*\)(.*/\1/p' include/rikkovan.h | sort
+}
+
 # The last line of the tests.
 all_passed() {
     [ "$failures" -eq 0 ] || {

@@ -92,6 +92,7 @@ stage 'rt ci' rt_ci
 stage 'library' library
 stage 'tests from C' part test-c
 test_rust
+stage 'fuzz' part test-fuzz
 stage 'tests of lpset' tests/lpset/run.sh
 stage 'tests of moments' tests/moments/run.sh
 compare

@@ -52,8 +52,9 @@ struct call_case {
     uint32_t entry[21];
 };
 
-/* The least rails for 24 and 48 MHz on D, and for 144 and 240 MHz on S. */
-#define ON_D(buck, ldo) {C(HPSYS_SUPPLY), 1}, {C(SET_VOUT_M), buck}, {C(HPSYS_LDO), ldo}
+/* The rails of supply D, and those of supply S. */
+#define ON_D(buck, ldo) \
+    {C(HPSYS_SUPPLY), RIKKOVAN_HPSYS_SUPPLY_D}, {C(SET_VOUT_M), buck}, {C(HPSYS_LDO), ldo}
 #define ON_S(buck, ldo) {C(BUCK_VOUT), buck}, {C(HPSYS_VOUT), ldo}
 #define HPBG_ON {B(HPBG), 1}, {C(HPBG), 1}
 
@@ -77,18 +78,15 @@ struct call_case {
 #define LOAD_ABOVE_240_MHZ CYCLES(0x0E, 0x4E, 0x1C, 0x01), SECOND
 #define LOAD_ABOVE_48_MHZ CYCLES(0x02, 0xDC, 0x6C, 0x01), SECOND
 
-#define RAILS_D0 ENTRY(SET_VOUT_M, 9), ENTRY(HPSYS_LDO, 6)
-#define RAILS_D1 ENTRY(SET_VOUT_M, 10), ENTRY(HPSYS_LDO, 8)
-#define RAILS_S0 ENTRY(BUCK_VOUT, 13), ENTRY(HPSYS_VOUT, 11)
-#define RAILS_S1 ENTRY(BUCK_VOUT, 15), ENTRY(HPSYS_VOUT, 13)
-#define TIMING_S ENTRY(HPSYS_TIMING, 0x3043)
-#define SUPPLY_S ENTRY(HPSYS_SUPPLY, 0)
-#define SUPPLY_D ENTRY(HPSYS_SUPPLY, 1)
-#define END_D0 RAILS_D0, ENTRY(HPSYS_TIMING, 0x0160), SUPPLY_D
-#define END_D1 RAILS_D1, ENTRY(HPSYS_TIMING, 0x1161), SUPPLY_D
-#define END_S0 RAILS_S0, TIMING_S, SUPPLY_S
-#define END_S1 RAILS_S1, TIMING_S, SUPPLY_S
-#define RAISE_S1(cycles) RAILS_S1, SUPPLY_S, DELAY(cycles), TIMING_S
+#define RAILS_D(m) ENTRY(SET_VOUT_M, RIKKOVAN_##m##_BUCK), ENTRY(HPSYS_LDO, RIKKOVAN_##m##_LDO)
+#define RAILS_S(m) ENTRY(BUCK_VOUT, RIKKOVAN_##m##_BUCK), ENTRY(HPSYS_VOUT, RIKKOVAN_##m##_LDO)
+#define TIMING(m) ENTRY(HPSYS_TIMING, RIKKOVAN_##m##_TIMING)
+#define SUPPLY(supply) ENTRY(HPSYS_SUPPLY, RIKKOVAN_HPSYS_SUPPLY_##supply)
+#define END_D0 RAILS_D(D0), TIMING(D0), SUPPLY(D)
+#define END_D1 RAILS_D(D1), TIMING(D1), SUPPLY(D)
+#define END_S0 RAILS_S(S0), TIMING(S0), SUPPLY(S)
+#define END_S1 RAILS_S(S1), TIMING(S1), SUPPLY(S)
+#define RAISE_S1(cycles) RAILS_S(S1), SUPPLY(S), DELAY(cycles), TIMING(S1)
 #define SET_HPBG ENTRY(HPBG, 0x0100), ENTRY(HPBG, 0x0101)
 #define DIVIDERS ENTRY(HPSYS_CFGR, 0x010106)
 
@@ -123,7 +121,7 @@ static const struct call_case cases[] = {
       END_D1}},
     {"24 MHz to 24 MHz over 48 MHz", {ON_D(15, 7), CORE_DLL1(0), HPBG_ON}, {PLAN_DLL1(0), NO_DLL2},
      2, 1, 0, 2,
-     {RAILS_D1, DELAY(6000), ENTRY(SYSCLK, 1), ENTRY(DLL1, 0), ENTRY(DLL1, 0x010000), DELAY(480),
+     {RAILS_D(D1), DELAY(6000), ENTRY(SYSCLK, 1), ENTRY(DLL1, 0), ENTRY(DLL1, 0x010000), DELAY(480),
       WAIT(DLL1, 2), DIVIDERS, ENTRY(SYSCLK, 3), END_D0}},
     {"240 MHz to 144 MHz", {ON_S(15, 13), CORE_DLL1(9), HPBG_ON, {A(HPSYS_CFGR), 0}},
      {PLAN_DLL1(5)}, 1, 0, 0, 1,

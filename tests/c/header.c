@@ -5,7 +5,7 @@
 int main(void)
 {
     const uint8_t plan[RIKKOVAN_PLAN_BYTES] = RIKKOVAN_DEFAULT_PLAN;
-    const uint8_t head[RIKKOVAN_HEAD_BYTES] = {0, 109, 1};
+    const uint8_t head[RIKKOVAN_HEAD_BYTES] = RIKKOVAN_EMPTY_HEAD;
     uint32_t clocks[RIKKOVAN_CLOCKS], lpsys[RIKKOVAN_LPSYS_CLOCKS];
     uint64_t word;
 
@@ -13,7 +13,7 @@ int main(void)
         return 1;
     if (rikkovan_read_clocks(head, sizeof head, clocks) != 0)
         return 1;
-    if (clocks[RIKKOVAN_CLOCK_PERI] != 48000000 || clocks[RIKKOVAN_CLOCK_HCLK] != 0)
+    if (clocks[RIKKOVAN_CLOCK_PERI] != RIKKOVAN_OSCILLATOR_HZ || clocks[RIKKOVAN_CLOCK_HCLK] != 0)
         return 1;
     word = rikkovan_read_lpsys(head, 0, lpsys);
     if (!RIKKOVAN_REFUSED(word) || rikkovan_refusal(word) != RIKKOVAN_REFUSED_LENGTH)

@@ -12,10 +12,10 @@
 #define A(reg) RIKKOVAN_HEAD_A(RIKKOVAN_REG_##reg)
 #define B(reg) RIKKOVAN_HEAD_B(RIKKOVAN_REG_##reg)
 #define C(reg) RIKKOVAN_HEAD_C(RIKKOVAN_REG_##reg)
-#define ENTRY(reg, value) ((uint32_t)RIKKOVAN_REG_##reg << 24 | (value))
-#define DELAY(cycles) ((uint32_t)RIKKOVAN_ENTRY_DELAY << 24 | (cycles))
+#define ENTRY(reg, value) RIKKOVAN_ENTRY(RIKKOVAN_REG_##reg, value)
+#define DELAY(cycles) RIKKOVAN_ENTRY(RIKKOVAN_ENTRY_DELAY, cycles)
 #define WAIT(kind, taken) \
-    ((uint32_t)RIKKOVAN_ENTRY_WAIT << 24 | (uint32_t)RIKKOVAN_WAIT_##kind << 16 | (taken))
+    RIKKOVAN_ENTRY(RIKKOVAN_ENTRY_WAIT, RIKKOVAN_WAIT_VALUE(RIKKOVAN_WAIT_##kind, taken))
 
 static int failures = 0;
 
@@ -43,18 +43,18 @@ struct edit {
 /* The core on HXT48, all oscillators ready, LPSYS at 48 MHz on supply S, one task, all else 0. */
 static void make_head(uint8_t *head, size_t room)
 {
+    static const uint8_t empty[RIKKOVAN_HEAD_TASK(0)] = RIKKOVAN_EMPTY_HEAD;
+
     memset(head, PAST, room);
-    memset(head, 0, RIKKOVAN_HEAD_TASK(0));
-    head[RIKKOVAN_HEAD_LENGTH + 1] = 109 + 9;
-    head[RIKKOVAN_HEAD_VERSION] = 1;
+    memcpy(head, empty, sizeof empty);
     head[C(SYSCLK)] = RIKKOVAN_CORE_HXT48;
     head[C(LPSYS_SUPPLY)] = RIKKOVAN_LPSYS_SUPPLY_S;
-    head[RIKKOVAN_HEAD_HXT48_READY] = 1;
-    head[RIKKOVAN_HEAD_HRC48_READY] = 1;
-    head[RIKKOVAN_HEAD_LPSYS_HXT48_READY] = 1;
+    head[RIKKOVAN_HEAD_HXT48_READY] = RIKKOVAN_READY;
+    head[RIKKOVAN_HEAD_HRC48_READY] = RIKKOVAN_READY;
+    head[RIKKOVAN_HEAD_LPSYS_HXT48_READY] = RIKKOVAN_READY;
     head[RIKKOVAN_HEAD_WAKE_COUNT] = 7;
-    head[RIKKOVAN_HEAD_TASKS] = 1;
-    memcpy(head + RIKKOVAN_HEAD_TASK(0), "\1\0\0\0\2\0\0\0\3", 9);
+    rikkovan_put_task_count(head, 1);
+    rikkovan_put_task(head + RIKKOVAN_HEAD_TASK(0), 1, 2, 3);
 }
 
 static void put(uint8_t *head, const struct edit *edit, int most)
@@ -91,15 +91,8 @@ static inline int put_stores(uint8_t *wanted, const uint32_t *entry)
 {
     int k;
 
-    for (k = 0; entry[k] != 0; k++) {
-        uint32_t number = rikkovan_entry_number(entry[k]), value = rikkovan_entry_value(entry[k]);
-
-        if (number > RIKKOVAN_REG_LPSYS_MAC)
-            continue;
-        wanted[RIKKOVAN_HEAD_A(number)] = (uint8_t)(value >> 16);
-        wanted[RIKKOVAN_HEAD_B(number)] = (uint8_t)(value >> 8 & 0xFF);
-        wanted[RIKKOVAN_HEAD_C(number)] = (uint8_t)(value & 0xFF);
-    }
+    for (k = 0; entry[k] != 0; k++)
+        rikkovan_put_entry(wanted, entry[k]);
     return k;
 }
 

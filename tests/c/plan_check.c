@@ -124,7 +124,7 @@ static void test_texts(void)
         int known = a <= 18 || (31 <= a && a <= 43);
 
         sprintf(what, "text of %u is known", a);
-        expect(what, known, strcmp(rikkovan_refusal_text(a), unknown) != 0);
+        expect(what, (uint64_t)known, strcmp(rikkovan_refusal_text(a), unknown) != 0);
         for (b = 0; known && b < a; b++) {
             sprintf(what, "texts of %u and %u are equal", b, a);
             expect(what, 0, strcmp(rikkovan_refusal_text(a), rikkovan_refusal_text(b)) == 0);

@@ -89,21 +89,17 @@ static void expect_refused(const char *name, const uint8_t *head, size_t len, ui
 /* A head with these tasks, ids from 1 on: the core on HXT48, all oscillators ready, all else 0. */
 static void make_head(uint8_t head[RIKKOVAN_HEAD_BYTES], int tasks)
 {
+    static const uint8_t empty[RIKKOVAN_HEAD_BYTES] = RIKKOVAN_EMPTY_HEAD;
     int k;
 
-    memset(head, 0, RIKKOVAN_HEAD_BYTES);
-    head[RIKKOVAN_HEAD_LENGTH + 1] = (uint8_t)(109 + 9 * tasks);
-    head[RIKKOVAN_HEAD_VERSION] = 1;
-    head[RIKKOVAN_HEAD_C(RIKKOVAN_REG_SYSCLK)] = RIKKOVAN_CORE_HXT48;
-    head[RIKKOVAN_HEAD_HXT48_READY] = 1;
-    head[RIKKOVAN_HEAD_HRC48_READY] = 1;
-    head[RIKKOVAN_HEAD_LPSYS_HXT48_READY] = 1;
-    head[RIKKOVAN_HEAD_TASKS] = (uint8_t)tasks;
-    for (k = 0; k < tasks; k++) {
-        head[RIKKOVAN_HEAD_TASK(k) + RIKKOVAN_TASK_ID] = (uint8_t)(k + 1);
-        head[RIKKOVAN_HEAD_TASK(k) + RIKKOVAN_TASK_CYCLES + 3] = 1;
-        head[RIKKOVAN_HEAD_TASK(k) + RIKKOVAN_TASK_PERIOD + 3] = 1;
-    }
+    memcpy(head, empty, sizeof empty);
+    rikkovan_put_register(head, RIKKOVAN_REG_SYSCLK, RIKKOVAN_CORE_HXT48);
+    head[RIKKOVAN_HEAD_HXT48_READY] = RIKKOVAN_READY;
+    head[RIKKOVAN_HEAD_HRC48_READY] = RIKKOVAN_READY;
+    head[RIKKOVAN_HEAD_LPSYS_HXT48_READY] = RIKKOVAN_READY;
+    rikkovan_put_task_count(head, (uint8_t)tasks);
+    for (k = 0; k < tasks; k++)
+        rikkovan_put_task(head + RIKKOVAN_HEAD_TASK(k), (uint8_t)(k + 1), 1, 1);
 }
 
 /* The head that make_head makes with some bytes set: the first `edits` of the list. */

@@ -1,14 +1,15 @@
 #!/usr/bin/env bash
 # Tests the header, the library and the daemon, and what make install writes. Run by `make test-c`,
-# which builds the library and the daemon first. Prints a line for each test.
+# which builds the library, the daemon and the programs first. Prints a line for each test.
 set -uo pipefail
 cd "$(dirname "$0")/../.." || exit
 unset MAKEFLAGS
 
 cc=${CC:-cc}
 cxx=${CXX:-g++}
-strict=(-Wall -Wextra -pedantic -Werror -O2)
+strict=(-Wall -Wextra -pedantic -Wconversion -Wsign-conversion -Werror -O2)
 library=target/staticlib/librikkovan.a
+daemon=build/daemon
 . tests/lib.sh test-c || exit
 
 builds_and_runs() { # PROGRAM COMMAND..
@@ -34,6 +35,11 @@ calls() { # FILE, without .c
             "$cxx" -std=c++11 "${strict[@]}" -Iinclude -x c++ "tests/c/$1.c" -x none "$library"
 }
 
+library_has_every_call() {
+    diff <(header_calls) \
+        <(nm -g --defined-only "$library" | sed -n 's/.* T \(rikkovan_.*\)/\1/p' | sort)
+}
+
 plans_are_made_again() {
     tools/make-plans.sh "$work/plans" && diff -r "$work/plans" examples/plans
 }
@@ -46,7 +52,7 @@ tasks_are_made_again() {
 daemon_ends_with() { # STATUS FILE..
     local wanted=$1 status=0
     shift
-    build/daemon "$@" || status=$?
+    "$daemon" "$@" || status=$?
     [ "$status" -eq "$wanted" ] || {
         echo "exit status $status, not $wanted"
         return 1
@@ -92,31 +98,61 @@ daemon_on_unreadable() { # FILE
         grep "^daemon: $1: " "$work/errors"
 }
 
-# The library is there, so that make install has nothing to prove: with RT=false it could not.
+# Library and programs are there, so that make install has nothing to prove: with RT=false it could
+# not.
 installs() {
     make install RT=false PREFIX="$work/usr" &&
         builds_and_runs "$work/installed" "$cc" -std=c99 "${strict[@]}" -I"$work/usr/include" \
             tests/c/header.c -L"$work/usr/lib" -lrikkovan
 }
 
-installs_below_destdir() {
-    make install RT=false DESTDIR="$work/stage" PREFIX=/usr &&
-        cmp include/rikkovan.h "$work/stage/usr/include/rikkovan.h" &&
-        cmp "$library" "$work/stage/usr/lib/librikkovan.a" &&
-        grep -x 'prefix=/usr' "$work/stage/usr/lib/pkgconfig/rikkovan.pc"
+# Without an environment, the installed programs need nothing of the Rattle kit.
+installed_programs() {
+    (cd "$work" && env -i usr/bin/lpset) 2>&1 | grep '^usage: lpset ' &&
+        (cd "$work" && env -i usr/bin/moments) 2>&1 | grep '^usage: moments '
 }
 
-links_by_pkg_config() {
-    local flags
+installs_below_destdir() {
+    make install RT=false DESTDIR="$work/a stage" PREFIX=/usr &&
+        cmp include/rikkovan.h "$work/a stage/usr/include/rikkovan.h" &&
+        cmp "$library" "$work/a stage/usr/lib/librikkovan.a" &&
+        grep -x 'prefix=/usr' "$work/a stage/usr/lib/pkgconfig/rikkovan.pc"
+}
+
+# Of all files, one that make install did not write is left.
+uninstalls() {
+    : >"$work/a stage/usr/lib/pkgconfig/other.pc"
+    make uninstall DESTDIR="$work/a stage" PREFIX=/usr &&
+        diff <(echo "$work/a stage/usr/lib/pkgconfig/other.pc") <(find "$work/a stage" ! -type d)
+}
+
+installed_daemon() (
     flags=$(PKG_CONFIG_PATH="$work/usr/lib/pkgconfig" pkg-config --cflags --libs rikkovan) || return
+    daemon=$work/daemon
     # shellcheck disable=SC2086
-    builds_and_runs "$work/pkg" "$cc" -std=c99 "${strict[@]}" tests/c/header.c $flags
+    "$cc" -std=c99 "${strict[@]}" examples/daemon.c $flags -o "$daemon" &&
+        daemon_on_plans && daemon_on_tasks
+)
+
+man_page_has_every_call() {
+    diff <(header_calls) <(sed -n 's/^\.It Fn //p' man/rikkovan.3 | sort)
+}
+
+# The formatter writes nothing but warnings.
+man_pages_format() {
+    local page
+    for page in "$work"/usr/share/man/man[13]/*; do
+        groff -ww -mandoc -Tascii -z "$page" 2>&1 || return
+    done >"$work/warnings"
+    diff /dev/null "$work/warnings"
 }
 
 check 'header as C99' header_as_c c99
 check 'header as C11' header_as_c c11
 check 'header as C++11' header_as_cxx c++11
 check 'header as C++17' header_as_cxx c++17
+check_with nm 'the library exports the calls of the header and no other' library_has_every_call
+check 'names and small functions of the header' calls helpers
 check 'plan check' calls plan_check
 check 'readings' calls readings
 check 'LPSYS request' calls lpsys_request
@@ -138,11 +174,11 @@ check 'daemon on a folder' daemon_on_unreadable "$work"
 check 'daemon without a file ends with 2' daemon_ends_with 2
 check 'daemon with --tasks alone ends with 2' daemon_ends_with 2 examples/plans/default.plan --tasks
 check 'make install' installs
+check 'installed programs' installed_programs
 check 'make install with DESTDIR' installs_below_destdir
-if command -v pkg-config >/dev/null; then
-    check 'pkg-config' links_by_pkg_config
-else
-    echo 'test-c: skipped: pkg-config (it is not installed)'
-fi
+check 'make uninstall with DESTDIR' uninstalls
+check_with pkg-config 'daemon with the installed library' installed_daemon
+check 'rikkovan.3 has every call of the header' man_page_has_every_call
+check_with groff 'man pages without a warning' man_pages_format
 
 all_passed

@@ -3,7 +3,7 @@
 
 #define MOST RIKKOVAN_MOST_TASKS
 #define NINE RIKKOVAN_TASK_BYTES
-#define LONGEST 10000000u
+#define LONGEST ((uint32_t)RIKKOVAN_MOST_PERIOD_US)
 #define LARGEST 0xFFFFFFFFu
 
 struct task {
@@ -11,27 +11,14 @@ struct task {
     uint32_t cycles, period_us;
 };
 
-static void put_number(uint8_t *bytes, uint32_t number)
-{
-    int k;
-
-    for (k = 0; k < 4; k++)
-        bytes[k] = (uint8_t)(number >> (24 - 8 * k) & 0xFF);
-}
-
 static void put_task(uint8_t *bytes, const struct task *task)
 {
-    bytes[RIKKOVAN_TASK_ID] = task->id;
-    put_number(bytes + RIKKOVAN_TASK_CYCLES, task->cycles);
-    put_number(bytes + RIKKOVAN_TASK_PERIOD, task->period_us);
+    rikkovan_put_task(bytes, task->id, task->cycles, task->period_us);
 }
 
-/* The number of tasks of a head, and the length field that fits it. */
 static void put_count(uint8_t *head, int count)
 {
-    head[RIKKOVAN_HEAD_TASKS] = (uint8_t)count;
-    head[RIKKOVAN_HEAD_LENGTH] = (uint8_t)((109 + NINE * count) >> 8);
-    head[RIKKOVAN_HEAD_LENGTH + 1] = (uint8_t)((109 + NINE * count) & 0xFF);
+    rikkovan_put_task_count(head, (uint8_t)count);
 }
 
 /* A light task, which differs from that of every other place. */

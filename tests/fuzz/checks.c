@@ -1,0 +1,284 @@
+#include "fuzz.h"
+
+#include <stdio.h>
+#include <stdlib.h>
+#include <string.h>
+
+/* A call that was made: what it was given, its answer taken apart, and what it left. */
+struct made {
+    enum which which;
+    const struct call *call;
+    const struct lent *given, *left;
+    uint64_t answer;
+    uint32_t refusal, entries;
+    int is_kept; /* a refusal that keeps the stores made so far */
+};
+
+static void expect(const struct made *made, int holds, const char *what)
+{
+    if (holds)
+        return;
+    fprintf(stderr, "fuzz: %s, answer 0x%016lx: %s\n", made->call->name,
+            (unsigned long)made->answer, what);
+    abort();
+}
+
+static int lends(const struct made *made, enum buffer buffer)
+{
+    return (made->call->lends & LENDS(buffer)) != 0;
+}
+
+/* Whether a lent buffer is as it was, from an element on. */
+static int is_same_from(const struct made *made, enum buffer buffer, size_t first)
+{
+    size_t size = element_size[buffer], len = made->given->len[buffer];
+    const uint8_t *before = made->given->at[buffer], *after = made->left->at[buffer];
+
+    return memcmp(before + first * size, after + first * size, (len - first) * size) == 0;
+}
+
+static void check_refusal(const struct made *made)
+{
+    uint32_t first = model_refusal(made->which, made->given);
+
+    expect(made, made->refusal <= MOST_REFUSAL, "refusal number out of range");
+    expect(made, made->refusal == 0 || (made->call->refusals >> made->refusal & 1) != 0,
+           "a refusal that the call does not have");
+    if (first != 0)
+        expect(made, made->refusal == first, "not the first test that fails");
+    else
+        expect(made, made->refusal == 0 || made->is_kept, "refused, and no test fails");
+}
+
+static void check_value(const struct made *made)
+{
+    uint32_t value = rikkovan_value(made->answer);
+
+    if (made->refusal != 0)
+        return;
+    switch (made->which) {
+    case ENSURE_SAFE:
+        expect(made, value == model_lpsys_hclk(made->given->at[HEAD]), "not the LPSYS HCLK before");
+        break;
+    case INIT:
+        expect(made, value == 0 || value == RIKKOVAN_REFUSED_HXT48_NOT_READY ||
+                         value == RIKKOVAN_REFUSED_DIFFERENCE, "no value of init");
+        break;
+    default: expect(made, value == 0, "a value");
+    }
+}
+
+/* Entries and answers are counted within what is lent; waits take what is counted. */
+static void check_journal(const struct made *made)
+{
+    const uint32_t *journal = made->left->at[JOURNAL];
+    uint32_t k, taken = 0;
+
+    expect(made, made->entries <= made->call->most_entries, "too many entries");
+    expect(made, made->entries == 0 || made->refusal == 0 || made->is_kept,
+           "entries of a refusal that keeps nothing");
+    expect(made, is_same_from(made, JOURNAL, made->entries), "a word past the last entry");
+    for (k = 0; k < made->entries; k++) {
+        uint32_t number = rikkovan_entry_number(journal[k]);
+
+        if (number == RIKKOVAN_ENTRY_WAIT) {
+            uint32_t kind = rikkovan_wait_kind(journal[k]);
+
+            expect(made, kind >= RIKKOVAN_WAIT_HXT48 && kind <= RIKKOVAN_WAIT_LPSYS_ACTIVE,
+                   "a wait of no kind");
+            taken += rikkovan_wait_taken(journal[k]);
+        } else
+            expect(made, number == RIKKOVAN_ENTRY_DELAY || rikkovan_is_store(journal[k]),
+                   "an entry of no number");
+    }
+    if (made->refusal == RIKKOVAN_REFUSED_ANSWERS_RAN_OUT) {
+        expect(made, taken <= made->given->len[ANSWERS], "waits took more than is lent");
+        taken = (uint32_t)made->given->len[ANSWERS];
+    }
+    expect(made, rikkovan_taken(made->answer) == taken, "not the answers that the waits took");
+}
+
+/* What an entry does to a head: a store to its register, a wait for HXT48 to its ready flag. */
+static void put_entry(uint8_t *head, uint32_t entry)
+{
+    rikkovan_put_entry(head, entry);
+    if (rikkovan_entry_number(entry) != RIKKOVAN_ENTRY_WAIT)
+        return;
+    if (rikkovan_wait_kind(entry) == RIKKOVAN_WAIT_HXT48)
+        head[RIKKOVAN_HEAD_HXT48_READY] = RIKKOVAN_READY;
+    if (rikkovan_wait_kind(entry) == RIKKOVAN_WAIT_LPSYS_HXT48)
+        head[RIKKOVAN_HEAD_LPSYS_HXT48_READY] = RIKKOVAN_READY;
+}
+
+static void put_released(uint8_t *head, uint8_t id)
+{
+    uint8_t count = head[RIKKOVAN_HEAD_TASKS], place = 0;
+
+    while (head[RIKKOVAN_HEAD_TASK(place)] != id)
+        place++;
+    memmove(head + RIKKOVAN_HEAD_TASK(place), head + RIKKOVAN_HEAD_TASK(place + 1),
+            (size_t)RIKKOVAN_TASK_BYTES * (size_t)(count - place - 1));
+    rikkovan_put_task_count(head, (uint8_t)(count - 1));
+}
+
+/* What a call that is done does to a head beside its entries. */
+static void put_done(const struct made *made, uint8_t *head)
+{
+    const struct lent *given = made->given;
+    uint8_t count = head[RIKKOVAN_HEAD_TASKS];
+
+    switch (made->which) {
+    case WAKE: head[RIKKOVAN_HEAD_WAKE_COUNT]++; break;
+    case CANCEL: head[RIKKOVAN_HEAD_WAKE_COUNT]--; break;
+    case BOOK:
+        rikkovan_put_task(head + RIKKOVAN_HEAD_TASK(count), given->byte[0], given->number[0],
+                          given->number[1]);
+        rikkovan_put_task_count(head, (uint8_t)(count + 1));
+        break;
+    case RELEASE: put_released(head, given->byte[0]); break;
+    default: break;
+    }
+}
+
+/* The head after the call is the one before it with the entries put in, and nothing else. */
+static void check_head(const struct made *made)
+{
+    const uint32_t *journal = made->left->at[JOURNAL];
+    uint8_t head[RIKKOVAN_HEAD_BYTES];
+    uint32_t clocks[RIKKOVAN_CLOCKS], k;
+
+    if (model_head_refusal(made->given->at[HEAD], made->given->len[HEAD]) != 0) {
+        expect(made, is_same_from(made, HEAD, 0), "a refused head changed");
+        return;
+    }
+    memcpy(head, made->given->at[HEAD], sizeof head);
+    for (k = 0; k < made->entries; k++)
+        put_entry(head, journal[k]);
+    if (made->refusal == 0)
+        put_done(made, head);
+    expect(made, memcmp(head, made->left->at[HEAD], sizeof head) == 0,
+           "not the head that the entries give");
+    expect(made, rikkovan_read_clocks(head, sizeof head, clocks) == 0, "the head is refused now");
+}
+
+static void check_clocks(const struct made *made)
+{
+    const uint32_t *before = made->given->at[CLOCKS], *after = made->left->at[CLOCKS];
+    const uint8_t *head = made->left->at[HEAD];
+    uint32_t wanted[RIKKOVAN_CLOCKS] = {0};
+
+    if (made->refusal != 0 && made->which == INIT) {
+        expect(made, memcmp(after, wanted, sizeof wanted) == 0, "clocks of a refused init");
+    } else if (made->refusal != 0) {
+        expect(made, is_same_from(made, CLOCKS, 0), "clocks of a refused call");
+    } else if (made->which == READ_LPSYS) {
+        expect(made, after[RIKKOVAN_LPSYS_HCLK] == model_lpsys_hclk(head), "LPSYS HCLK");
+    } else {
+        rikkovan_read_clocks(head, RIKKOVAN_HEAD_BYTES, wanted);
+        if (made->which == RECONFIGURE)
+            memcpy(wanted + RIKKOVAN_CLOCK_AUD_PLL, before + RIKKOVAN_CLOCK_AUD_PLL,
+                   2 * sizeof wanted[0]);
+        expect(made, memcmp(after, wanted, sizeof wanted) == 0, "not the clocks of the head");
+        expect(made, after[RIKKOVAN_CLOCK_HCLK] == model_hclk(head), "HCLK");
+    }
+}
+
+/* Of a fit head: every moment of these calls is fit, and a change ends as the header says. */
+static void check_moments(const struct made *made)
+{
+    const uint32_t *journal = made->left->at[JOURNAL];
+    uint8_t head[RIKKOVAN_HEAD_BYTES];
+    uint32_t k;
+
+    memcpy(head, made->given->at[HEAD], sizeof head);
+    for (k = 0; k < made->entries; k++) {
+        rikkovan_put_entry(head, journal[k]);
+        expect(made, model_is_fit(head), "a moment that is not fit");
+    }
+    expect(made, model_is_fit(made->left->at[HEAD]), "a head that is not fit now");
+}
+
+static int is_any_ready(const struct lent *given)
+{
+    const uint16_t *answers = given->at[ANSWERS];
+    size_t k;
+
+    for (k = 0; k < given->len[ANSWERS]; k++)
+        if (answers[k] != RIKKOVAN_NOT_READY)
+            return 1;
+    return 0;
+}
+
+static void check_change(const struct made *made)
+{
+    const uint8_t *plan = made->given->at[PLAN], *head = made->left->at[HEAD];
+
+    if (model_refusal(CHANGE, made->given) != 0)
+        return;
+    expect(made, (made->refusal == 0) ==
+                     (plan[RIKKOVAN_PLAN_DLL1_PRESENT] == 0 || is_any_ready(made->given)),
+           "done or not, against its answers");
+    if (made->refusal == 0)
+        expect(made, model_hclk(head) == model_plan_hclk(plan), "HCLK is not the plan's");
+}
+
+static void check_guarded(const struct made *made)
+{
+    const uint8_t *head = made->given->at[HEAD], *left = made->left->at[HEAD];
+
+    if (made->which != CHANGE && made->which != BOOK && made->which != RELEASE &&
+        made->which != CONFIG_LPSYS)
+        return;
+    if (model_head_refusal(head, made->given->len[HEAD]) == 0 && model_is_fit(head))
+        check_moments(made);
+    if (made->which == CHANGE)
+        check_change(made);
+    if (made->refusal == 0 && (made->which == CHANGE || made->which == BOOK))
+        expect(made, model_booked_load(left) <= model_hclk(left), "the load is above HCLK");
+}
+
+/* The plan check answers the refusal as it is, the load check with bit 63, or the load. */
+static void check_number(const struct made *made)
+{
+    uint64_t wanted = made->refusal;
+
+    if (made->which == LOAD_CHECK && made->refusal != 0)
+        wanted |= UINT64_C(1) << 63;
+    if (made->which == LOAD_CHECK && made->refusal == 0)
+        wanted = model_load(made->given->at[TASKS],
+                            (unsigned)(made->given->len[TASKS] / RIKKOVAN_TASK_BYTES));
+    expect(made, made->answer == wanted, "not the number");
+}
+
+void check_call(enum which which, const struct lent *given, uint64_t answer,
+                const struct lent *left)
+{
+    struct made made = {which, &calls[which], given, left, answer, 0, 0, 0};
+
+    made.refusal = refusal_of(which, answer);
+    made.is_kept = made.refusal >= 32 && made.refusal <= 36 && which != BOOK;
+    check_refusal(&made);
+    if (!lends(&made, HEAD)) {
+        check_number(&made);
+        return;
+    }
+    made.entries = rikkovan_entries(answer);
+    check_value(&made);
+    check_journal(&made);
+    check_head(&made);
+    if (lends(&made, CLOCKS))
+        check_clocks(&made);
+    check_guarded(&made);
+}
+
+void check_same(enum which which, const struct lent *one, uint64_t answer, const struct lent *other,
+                uint64_t other_answer)
+{
+    struct made made = {which, &calls[which], one, other, answer, 0, 0, 0};
+    int k;
+
+    expect(&made, answer == other_answer, "another answer the second time");
+    for (k = 0; k < BUFFERS; k++)
+        if (lends(&made, (enum buffer)k))
+            expect(&made, is_same_from(&made, (enum buffer)k, 0), "left otherwise the second time");
+}
