@@ -28,7 +28,7 @@ help:
 	@echo 'make test-c         test the library from C and C++'
 	@echo 'make compare        compare the library with the Rust (compare-quick: a part of it)'
 	@echo 'make record         write crates/replay/data anew from the Rust'
-	@echo 'make bench          measure the library and the Rust'
+	@echo 'make bench          measure every call beside the Rust'
 	@echo 'make plans          write examples/plans anew (make tasks, make heads: the others)'
 	@echo 'make clean          remove what was built'
 

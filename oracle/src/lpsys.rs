@@ -6,6 +6,7 @@ use crate::ran::{Ran, hex_words};
 use crate::tally::hex;
 use sifli::call::{self, Outcome};
 use sifli::head::Head;
+use sifli::rcc;
 use std::fmt::{self, Display, Formatter};
 use std::iter;
 use std::ops::RangeInclusive;
@@ -21,6 +22,9 @@ pub struct Call {
     /// 0 and the refusals that it has.
     pub refusals: &'static [usize],
     pub original: fn(&Head, [u32; 3], &[u16]) -> Outcome,
+    /// The same on the head and answers that are in place, where nothing of the
+    /// input is refused.
+    pub in_place: fn([u32; 3]),
     pub ours: Exported,
 }
 
@@ -99,12 +103,17 @@ static REQUEST: Call = Call {
     is_lent_answers: false,
     refusals: &[0, 1, 2, 3, 15, 17, 34],
     original: |head, [freq_mhz, ..], _| call::config_lpsys_hclk_mhz(head, freq_mhz),
+    in_place: |[freq_mhz, ..]| {
+        let _ = unsafe { rcc::config_lpsys_hclk_mhz(freq_mhz) };
+    },
     ours: ffi::rikkovan_config_lpsys_hclk_mhz,
 };
 
 #[cfg(feature = "lpsys")]
 mod others {
-    use super::{Argument, Call, call, ffi};
+    use super::{Argument, Call, call, ffi, rcc};
+    use sifli::pac::lpsys_rcc::vals::Sysclk;
+    use sifli::pac::lpsys_rcc::vals::mux::Perisel;
 
     const BYTE: Argument = Argument {
         largest: 255,
@@ -132,6 +141,9 @@ mod others {
             is_lent_answers: false,
             refusals: &[0, 1, 2, 3, 17, 43],
             original: |head, _, _| call::ensure_safe_lcpu_frequency(head),
+            in_place: |_| {
+                let _ = rcc::ensure_safe_lcpu_frequency();
+            },
             ours: ffi::rikkovan_ensure_safe_lcpu_frequency,
         },
         Call {
@@ -141,6 +153,7 @@ mod others {
             is_lent_answers: true,
             refusals: &[0, 1, 2, 3, 17, 18, 34, 36],
             original: |head, _, answers| call::wake_lcpu(head, answers),
+            in_place: |_| unsafe { rcc::wake_lcpu() },
             ours: ffi::rikkovan_wake_lcpu,
         },
         Call {
@@ -150,6 +163,7 @@ mod others {
             is_lent_answers: false,
             refusals: &[0, 1, 2, 3, 17],
             original: |head, _, _| call::cancel_lcpu_active_request(head),
+            in_place: |_| unsafe { rcc::cancel_lcpu_active_request() },
             ours: ffi::rikkovan_cancel_lcpu_active_request,
         },
         Call {
@@ -159,6 +173,7 @@ mod others {
             is_lent_answers: true,
             refusals: &[0, 1, 2, 3, 17, 18, 36],
             original: |head, _, answers| call::ensure_hxt48_ready(head, answers),
+            in_place: |_| rcc::ensure_hxt48_ready(),
             ours: ffi::rikkovan_ensure_hxt48_ready,
         },
         Call {
@@ -168,6 +183,7 @@ mod others {
             is_lent_answers: false,
             refusals: &[0, 1, 2, 3, 17],
             original: |head, [hdiv, ..], _| call::set_lpsys_hdiv(head, hdiv as u8),
+            in_place: |[hdiv, ..]| rcc::set_lpsys_hdiv(hdiv as u8),
             ours: ffi::rikkovan_set_lpsys_hdiv,
         },
         Call {
@@ -180,6 +196,9 @@ mod others {
                 let [hdiv, pdiv1, pdiv2] = arguments.map(|argument| argument as u8);
                 call::set_lpsys_div(head, hdiv, pdiv1, pdiv2)
             },
+            in_place: |[hdiv, pdiv1, pdiv2]| {
+                rcc::set_lpsys_div(hdiv as u8, pdiv1 as u8, pdiv2 as u8);
+            },
             ours: ffi::rikkovan_set_lpsys_div,
         },
         Call {
@@ -191,6 +210,9 @@ mod others {
             original: |head, [macdiv, macfreq, _], _| {
                 call::config_lpsys_mac_clock(head, macdiv as u8, macfreq as u8)
             },
+            in_place: |[macdiv, macfreq, _]| {
+                rcc::config_lpsys_mac_clock(macdiv as u8, macfreq as u8);
+            },
             ours: ffi::rikkovan_config_lpsys_mac_clock,
         },
         Call {
@@ -200,6 +222,7 @@ mod others {
             is_lent_answers: false,
             refusals: &[0, 1, 2, 3, 17],
             original: |head, [source, ..], _| call::select_lpsys_sysclk(head, source as u8),
+            in_place: |[source, ..]| rcc::select_lpsys_sysclk(Sysclk::from_bits(source as u8)),
             ours: ffi::rikkovan_select_lpsys_sysclk,
         },
         Call {
@@ -209,6 +232,7 @@ mod others {
             is_lent_answers: false,
             refusals: &[0, 1, 2, 3, 17],
             original: |head, [source, ..], _| call::select_lpsys_peri(head, source as u8),
+            in_place: |[source, ..]| rcc::select_lpsys_peri(Perisel::from_bits(source as u8)),
             ours: ffi::rikkovan_select_lpsys_peri,
         },
     ];

@@ -29,8 +29,6 @@ mod record_lpsys;
 
 // What it exports of rcc/clock_config.rs.
 #[cfg(feature = "config")]
-mod bench_config;
-#[cfg(feature = "config")]
 mod compare_config;
 #[cfg(feature = "config")]
 mod config;
@@ -56,6 +54,10 @@ mod record_tasks;
 mod task_calls;
 #[cfg(feature = "tasks")]
 mod task_inputs;
+
+// What is measured where all is exported.
+#[cfg(all(feature = "lpsys", feature = "change"))]
+mod bench_calls;
 
 // The guarded change.
 #[cfg(feature = "change")]
@@ -94,7 +96,7 @@ compare  the plan check, the readings, the calls of LPSYS and those of
 record   writes DIR/plans.txt, DIR/heads.txt, DIR/lpsys.txt, DIR/config.txt,
          DIR/tasks.txt and DIR/change.txt: plans, heads and calls in hex and the
          answers to them.
-bench    nanoseconds per plan check, reading and call of clock_config.rs of both.";
+bench    nanoseconds per call of librikkovan.a, beside the original and the models.";
 
 fn main() -> ExitCode {
     sifli::caught::quiet();
