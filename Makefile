@@ -9,8 +9,15 @@ CXX = g++
 CFLAGS = -O2
 STRICT = -Wall -Wextra -pedantic -Werror
 RT = rt
-BUILD_ORACLE = cargo build --release --quiet --offline --manifest-path oracle/Cargo.toml
+WITH_ORACLE = --release --quiet --offline --manifest-path oracle/Cargo.toml
 ORACLE = oracle/target/release/oracle
+
+# Of each random group of make compare: the queries, and the seconds at least.
+COUNT =
+SECONDS =
+# What the random groups are drawn from: a number, or random.
+SEED =
+RANDOM_GROUPS = $(COUNT:%=--count %) $(SECONDS:%=--seconds %) $(SEED:%=--seed %)
 
 LIBRARY = target/staticlib/librikkovan.a
 SOURCES = crates.txt $(shell find crates -name '*.rt' -o -name '*.antt')
@@ -18,7 +25,7 @@ PLANS = $(sort $(wildcard examples/plans/*.plan))
 TASKS = $(sort $(wildcard examples/tasks/*.tasks))
 
 .DELETE_ON_ERROR:
-.PHONY: help lib run test test-c oracle oracle-library compare compare-quick compare-plans compare-heads record bench plans tasks heads install clean
+.PHONY: help lib run test test-c test-oracle oracle oracle-library compare compare-quick compare-plans compare-heads evidence record bench plans tasks heads install clean
 
 help:
 	@echo 'make run            prove the library, then check the example plans and tasks through it'
@@ -26,7 +33,9 @@ help:
 	@echo 'make lib            prove the library and write $(LIBRARY)'
 	@echo 'make install        install it, with its header (PREFIX=$(PREFIX), DESTDIR)'
 	@echo 'make test-c         test the library from C and C++'
-	@echo 'make compare        compare the library with the Rust (compare-quick: a part of it)'
+	@echo 'make compare        compare the library with the Rust (compare-quick: a part of it);'
+	@echo '                    COUNT= and SECONDS= of each random group, SEED='
+	@echo 'make evidence       write docs/EVIDENCE.md anew from such a comparison'
 	@echo 'make record         write crates/replay/data anew from the Rust'
 	@echo 'make bench          measure every call beside the Rust'
 	@echo 'make plans          write examples/plans anew (make tasks, make heads: the others)'
@@ -59,13 +68,16 @@ test-c: build/daemon
 	@CC='$(CC)' CXX='$(CXX)' tests/c/run.sh
 
 oracle-library:
-	$(BUILD_ORACLE) --lib
+	cargo build $(WITH_ORACLE) --lib
+
+test-oracle:
+	cargo test $(WITH_ORACLE) --lib
 
 oracle: $(LIBRARY)
-	$(BUILD_ORACLE)
+	cargo build $(WITH_ORACLE)
 
 compare: oracle
-	$(ORACLE) compare
+	$(ORACLE) compare $(RANDOM_GROUPS)
 
 # Two halves that take about the same time, one for each of two cores.
 compare-quick: oracle
@@ -76,6 +88,9 @@ compare-plans:
 
 compare-heads:
 	$(ORACLE) compare --quick --only heads --only lpsys --only change
+
+evidence: oracle
+	tools/evidence.sh $(RANDOM_GROUPS) >docs/EVIDENCE.md
 
 record: oracle
 	$(ORACLE) record crates/replay/data

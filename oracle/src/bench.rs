@@ -1,7 +1,6 @@
 //! `oracle bench`: every call of librikkovan.a beside the original code, or beside
 //! the model of what the original has not, in one table.
 
-#[cfg(all(feature = "lpsys", feature = "change"))]
 use crate::bench_calls;
 use crate::ffi;
 use crate::heads::{Buffer, buffer, busy, with_tasks};
@@ -53,9 +52,7 @@ pub fn run() {
     let columns = format!("{:>8}{:>7}{:>7}{:>7}", "ns", "ratio", "10%", "90%");
     print_line("call", "ours ns", [(); 3].map(|()| columns.clone()));
     let rows = plan_checks().into_iter().chain(readings());
-    #[cfg(all(feature = "lpsys", feature = "change"))]
-    let rows = rows.chain(bench_calls::rows());
-    rows.for_each(measure);
+    rows.chain(bench_calls::rows()).for_each(measure);
 }
 
 fn print_line(name: &str, ours: &str, others: [String; 3]) {
@@ -120,7 +117,7 @@ fn copy(bytes: usize) -> Side {
 /// The original panics on a refused plan.
 fn plan_checks() -> [Row; 3] {
     let row = |name, plans: Vec<Record>| {
-        let decoded: Vec<Plan> = plans.iter().map(decoded).collect();
+        let decoded: Vec<Plan> = plans.iter().map(|plan| decoded(plan)).collect();
         let builders: Vec<_> = decoded.iter().map(Plan::builder).collect();
         let is_accepted = decoded.iter().all(|plan| plan.check() == 0);
         let bytes = plans.clone();
@@ -169,14 +166,14 @@ fn plans(accepted: bool) -> Vec<Record> {
 /// # Panics
 ///
 /// Panics on a byte that is no code.
-pub fn decoded(plan: &Record) -> Plan {
+pub fn decoded(plan: &[u8]) -> Plan {
     plan::decode(plan).expect("a plan of codes")
 }
 
 /// # Panics
 ///
 /// Panics on a byte that is out of range.
-pub fn decoded_head(buffer: &Buffer) -> Head {
+pub fn decoded_head(buffer: &[u8]) -> Head {
     head::decode(buffer).expect("a head of codes")
 }
 

@@ -311,12 +311,3 @@ pub fn answers(random: &mut Random) -> Vec<u16> {
     }
     answers
 }
-
-/// Most often the fewest words, now and then too few or many.
-pub fn journal(random: &mut Random) -> usize {
-    match random.below(64) {
-        0 => random.below(128),
-        1 => 128 + random.below(1000),
-        _ => random.pick(&[128, 129, 200]),
-    }
-}

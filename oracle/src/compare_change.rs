@@ -1,44 +1,45 @@
 //! The guarded change of librikkovan.a against document 01, with demand 3 asked
 //! of every moment.
 
-use crate::change_calls::{Input, JOURNAL};
 use crate::change_inputs::{
-    CORES, LISTS, READY, answers, any_plan, few_fit, head, journal, plan, put_core, put_rails,
-    put_tasks, rails, target, targets, with_core, with_load,
+    CORES, LISTS, READY, answers, any_plan, few_fit, head, plan, put_core, put_rails, put_tasks,
+    rails, target, targets, with_core, with_load,
 };
 use crate::compare::Extent;
-use crate::compare_lists;
 use crate::config_inputs::{accepted, few_plans, refused_plans};
+use crate::groups::{Groups, Number, Report};
 use crate::heads::{
-    Buffer, DIVIDERS, LONGEST, buffer, damaged, dlls, few_heads, garbage, put_flags, put_register,
-    with,
+    Buffer, DIVIDERS, LONGEST, buffer, damaged_or_any, dlls, few_heads, journal, put_flags,
+    put_register, with,
 };
-use crate::plans::{self, Record, STAGES, of_length};
-use crate::tally::{Groups, Tally};
+use crate::ours::ours;
+use crate::plans::{self, STAGES, of_length};
+use crate::tally::Tally;
 use crate::task_inputs::any_past;
 use sifli::call::MOST_ANSWERS;
-use sifli::change::ANSWERS;
-use sifli::claim::planned;
-use sifli::head::{BUFFER, Head, MOST_TASKS, at};
+use sifli::claim::{self, Broken, Seen, planned};
+use sifli::head::{BUFFER, Head, MOST_TASKS, at, decode};
+use sifli::lent::Left;
 use sifli::plan::{DEFAULT, LENGTH};
+use sifli::query::{Id, JOURNAL, Query, call};
 use sifli::random::Random;
-use std::time::{Duration, Instant};
 
-const RANDOM: u64 = 1_000_000;
-const RANDOM_QUICK: u64 = 400_000;
-const DAMAGED: u64 = 200_000;
-const DAMAGED_QUICK: u64 = 20_000;
+const RANDOM: Number = Number {
+    full: 1_000_000,
+    quick: 400_000,
+};
+
+const DAMAGED: Number = Number {
+    full: 200_000,
+    quick: 20_000,
+};
 
 /// Plans from which those of random calls are drawn.
 pub const ACCEPTED: usize = 4000;
 
-/// Random changes and lists of calls share the seconds of a longer run.
-pub const SHARES: u32 = 2;
-
-/// Compares all groups, then the lists of calls, and gives their sum.
-pub fn run(extent: Extent) -> Tally {
+pub fn run(extent: Extent) -> Report {
     let quick = extent.quick;
-    let mut groups = Groups::ruled("change");
+    let mut groups = Groups::ruled("change", extent);
     groups.group("modes and rails", |tally| modes_and_rails(tally, quick));
     groups.group("every rail", |tally| every_rail(tally, quick));
     groups.group("flash selects", |tally| flash_selects(tally, quick));
@@ -54,22 +55,59 @@ pub fn run(extent: Extent) -> Tally {
     groups.group("order of refusals", order_of_refusals);
     groups.group("lengths", lengths);
     groups.group("one byte changed", |tally| one_byte_changed(tally, quick));
-    groups.group("damaged heads", |tally| damaged_heads(tally, quick));
-    groups.group("random changes", |tally| random_changes(tally, extent));
-    let mut sum = groups.finish(&ANSWERS);
-    sum.add(&compare_lists::run(extent));
-    sum
+    let accepted = accepted(&mut extent.random("accepted plans"), ACCEPTED);
+    groups.random("damaged heads", DAMAGED, |tally, random| {
+        let head = damaged_head(random);
+        let plan = any_plan(random, &accepted);
+        random_change(tally, random, &head, &plan);
+    });
+    groups.random("random changes", RANDOM, |tally, random| {
+        let mut head = head(random);
+        let plan = any_plan(random, &accepted);
+        put_tasks(random, &mut head, target(&plan));
+        let bytes = any_past(random, &head);
+        random_change(tally, random, &bytes, &plan);
+    });
+    groups.finish(call(Id::Change).refusals)
 }
 
-/// A change with a journal of 128 words.
-fn on(tally: &mut Tally, head: &[u8], plan: &[u8], answers: &[u16]) {
-    let input = Input {
-        plan,
-        head,
-        journal: JOURNAL,
-        answers,
+/// A change, and demand 3 of what it left.
+fn compare(tally: &mut Tally, query: &Query) {
+    let (left, _) = tally.compare(query);
+    let moments = left.entries().len() + 1;
+    let asked = |query: &Query| holds(query, &ours(query));
+    tally.claim(query, moments, holds(query, &left), asked);
+}
+
+/// Demand 3 of what a change left; nothing where the buffer is no head.
+pub fn holds(query: &Query, left: &Left) -> Result<(), Broken> {
+    let Ok(before) = decode(query.bytes) else {
+        return Ok(());
     };
-    input.compare(tally);
+    let after = decode(left.bytes()).map_err(|_| "the buffer is no head".to_string())?;
+    let seen = Seen {
+        before: &before,
+        answer: left.refusal(),
+        entries: left.entries(),
+        taken: left.taken() as usize,
+        after: &after,
+    };
+    claim::of_change(&seen, query.plan, query.answers)
+}
+
+/// A change with a journal of the usual length.
+fn on(tally: &mut Tally, head: &[u8], plan: &[u8], answers: &[u16]) {
+    with_journal(tally, head, plan, answers, JOURNAL);
+}
+
+fn with_journal(tally: &mut Tally, head: &[u8], plan: &[u8], answers: &[u16], journal: usize) {
+    let query = Query {
+        plan,
+        journal,
+        answers,
+        ..Query::on(call(Id::Change), head)
+    };
+    compare(tally, &query);
 }
 
 /// Every present HCLK on every rails with every target, and so every pair of
@@ -336,13 +374,7 @@ fn order_of_refusals(tally: &mut Tally) {
         let answers = vec![u16::from(!has(11)); length];
         let journal = if has(0) { JOURNAL - 1 } else { JOURNAL };
         for plan in &plans {
-            let input = Input {
-                plan,
-                head: &bytes,
-                journal,
-                answers: &answers,
-            };
-            input.compare(tally);
+            with_journal(tally, &bytes, plan, &answers, journal);
         }
     }
 }
@@ -359,13 +391,7 @@ fn lengths(tally: &mut Tally) {
             let answers = vec![1; answers];
             for head in [0, 110, 254, BUFFER, 256].map(|length| &bytes[..length]) {
                 for plan in [0, 19, LENGTH, 21].map(|length| &slice[..length]) {
-                    let input = Input {
-                        plan,
-                        head,
-                        journal,
-                        answers: &answers,
-                    };
-                    input.compare(tally);
+                    with_journal(tally, head, plan, &answers, journal);
                 }
             }
         }
@@ -391,59 +417,20 @@ fn one_byte_changed(tally: &mut Tally, quick: bool) {
     }
 }
 
-/// Random heads with one to three bytes replaced, fit ones too, and any bytes.
-fn damaged_heads(tally: &mut Tally, quick: bool) {
-    let mut random = Random::new(0xDA3D);
-    let accepted = accepted(&mut random, ACCEPTED);
-    let number = if quick { DAMAGED_QUICK } else { DAMAGED };
-    for turn in 0..number {
-        let bytes = match turn % 3 {
-            0 => damaged(&mut random).to_vec(),
-            1 => garbage(&mut random),
-            _ => {
-                let head = head(&mut random);
-                let mut buffer = any_past(&mut random, &head);
-                let number = 1 + random.below(34);
-                put_register(&mut buffer, number, [(); 3].map(|()| random.up_to(3)));
-                buffer.to_vec()
-            }
-        };
-        random_change(tally, &mut random, &bytes, &accepted);
+/// A damaged head, any bytes, or a head that may be fit with a register replaced.
+fn damaged_head(random: &mut Random) -> Vec<u8> {
+    if !random.once_in(3) {
+        return damaged_or_any(random);
     }
+    let head = head(random);
+    let mut buffer = any_past(random, &head);
+    let number = 1 + random.below(34);
+    put_register(&mut buffer, number, [(); 3].map(|()| random.up_to(3)));
+    buffer.to_vec()
 }
 
-/// Random heads; in a longer run for their share of the seconds.
-fn random_changes(tally: &mut Tally, extent: Extent) {
-    let mut random = Random::new(0xC4A6);
-    let accepted = accepted(&mut random, ACCEPTED);
-    let number = if extent.quick { RANDOM_QUICK } else { RANDOM };
-    let least = Duration::from_secs(extent.seconds) / SHARES;
-    let began = Instant::now();
-    while tally.compared < number || began.elapsed() < least {
-        for _ in 0..1000 {
-            let mut head = head(&mut random);
-            let plan = any_plan(&mut random, &accepted);
-            put_tasks(&mut random, &mut head, target(&plan));
-            let bytes = any_past(&mut random, &head);
-            given(tally, &mut random, &bytes, &plan);
-        }
-    }
-}
-
-/// A random plan, answers and length of the journal.
-fn random_change(tally: &mut Tally, random: &mut Random, head: &[u8], accepted: &[Record]) {
-    let plan = any_plan(random, accepted);
-    given(tally, random, head, &plan);
-}
-
-fn given(tally: &mut Tally, random: &mut Random, head: &[u8], plan: &[u8]) {
+/// Random answers and length of the journal.
+fn random_change(tally: &mut Tally, random: &mut Random, head: &[u8], plan: &[u8]) {
     let journal = journal(random);
-    let answers = answers(random);
-    let input = Input {
-        plan,
-        head,
-        journal,
-        answers: &answers,
-    };
-    input.compare(tally);
+    with_journal(tally, head, plan, &answers(random), journal);
 }

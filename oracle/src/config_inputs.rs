@@ -16,17 +16,6 @@ pub const DIFFERENCES: [u16; 7] = [0, 63, 64, 65, 159, 160, 161];
 /// Answers that end a wait: one and several bits, in either byte.
 const READY: [u16; 6] = [1, 2, 0x0100, 0x8000, 0x00FF, u16::MAX];
 
-/// Clocks that no reading gives, no two alike.
-pub const FORMER: Frequencies = {
-    let mut clocks = [0xC10C_0000; 15];
-    let mut index = 0;
-    while index < clocks.len() {
-        clocks[index] += index as u32;
-        index += 1;
-    }
-    clocks
-};
-
 /// Core on HXT48 at 48 MHz, PCLK2 at 6 MHz, no DLL, no USB, no calibration.
 pub const HXT48: Record = [0, 18, 1, 1, 1, 0, 3, 0, 0, 0, 0, 0, 0, 0, 0, 1, 0, 1, 0, 0];
 

@@ -1,9 +1,9 @@
 //! Arguments, answers and random heads for the calls of LPSYS.
 
 use crate::heads::{Buffer, likely};
-use crate::lpsys::{Argument, Call};
 use sifli::call::MOST_ANSWERS;
 use sifli::head::at;
+use sifli::query::{Argument, Call};
 use sifli::random::Random;
 
 /// Answers that end a wait: one and several bits, in either byte.

@@ -1,68 +1,49 @@
 //! Guarded changes to record, with the answers of document 01.
 
-use crate::change_calls::{Input, JOURNAL};
 use crate::change_inputs::{
     CORES, LISTS, READY, answers, any_plan, few_fit, head, plan, put_rails, put_tasks, rails,
     target, targets, with_core, with_load,
 };
 use crate::config_inputs::{accepted, refused_plans};
 use crate::heads::{buffer, damaged, put_flags, task, with};
-use crate::ran::hex_words;
-use crate::record::Lines;
-use crate::tally::hex;
+use crate::record::{CallLines, write_calls};
 use crate::task_inputs::any_past;
-use sifli::change::ANSWERS;
+use sifli::calls::guarded;
 use sifli::claim::planned;
 use sifli::head::{BUFFER, MOST_TASKS, at};
 use sifli::plan::DEFAULT;
+use sifli::query::Query;
 use sifli::random::Random;
 use std::io;
 use std::path::Path;
 
-const FILE: &str = "change.txt";
-
 /// The most answers in a line.
 const MOST_ANSWERS: usize = 60;
 
-/// Writes the file. Journals that are too short and answers that are too many
-/// are not in it, so 17 and 18 are not either.
 pub fn write(directory: &Path) -> io::Result<()> {
-    let mut list = List(Lines::new());
-    modes(&mut list);
-    unfit(&mut list);
-    every_rails(&mut list);
-    flash_selects(&mut list);
-    waits(&mut list);
-    flags_and_lpsys(&mut list);
-    loads(&mut list);
-    refused(&mut list);
-    random(&mut list);
-    let recorded = |answer: &usize| !matches!(answer, 17 | 18);
-    let answers: Vec<usize> = ANSWERS.into_iter().filter(recorded).collect();
-    list.0.write(directory, FILE, &answers, 1)
+    write_calls(directory, "change.txt", guarded(), |lines| {
+        let mut list = List(lines);
+        modes(&mut list);
+        unfit(&mut list);
+        every_rails(&mut list);
+        flash_selects(&mut list);
+        waits(&mut list);
+        flags_and_lpsys(&mut list);
+        loads(&mut list);
+        refused(&mut list);
+        random(&mut list);
+    })
 }
 
-struct List(Lines);
+struct List<'a, 'b>(&'a mut CallLines<'b>);
 
-impl List {
+impl List<'_, '_> {
     fn add(&mut self, head: &[u8], plan: &[u8], answers: &[u16]) {
-        let input = Input {
+        self.0.add(&Query {
             plan,
-            head,
-            journal: JOURNAL,
             answers,
-        };
-        let ran = input.ruled();
-        let text = format!(
-            "{} {} {} {} {} {}",
-            ran.refusal(),
-            ran.value(),
-            ran.entries().len(),
-            ran.taken(),
-            hex_words(ran.entries(), 8),
-            hex(ran.head()),
-        );
-        self.0.add(input.to_string(), (ran.refusal(), text));
+            ..Query::on(self.0.call, head)
+        });
     }
 }
 

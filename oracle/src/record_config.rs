@@ -1,45 +1,30 @@
 //! Calls of `rcc/clock_config.rs` to record, with the refusals of the oracle's
 //! decoders and what the original code does.
 
-use crate::config::{CALLS, Call, Clocks, Input};
 use crate::config_inputs::{
-    DIFFERENCES, FORMER, HXT48, MODE_STAGES, SEARCH, accepted, answers, around, clocks, dll1_plan,
+    DIFFERENCES, HXT48, MODE_STAGES, SEARCH, accepted, answers, around, clocks, dll1_plan,
     few_cores, few_lists, few_plans, head, plan, refused_plans, search,
 };
 use crate::heads::{
     buffer, busy, damaged, few_heads, plain, put_flags, put_register, task, with, with_tasks,
 };
 use crate::plans::default_with;
-use crate::ran::hex_words;
-use crate::record::Lines;
-use crate::tally::hex;
+use crate::record::{CallLines, write_calls};
 use sifli::call::Frequencies;
+use sifli::calls::config;
 use sifli::head::{BUFFER, at};
 use sifli::plan::{DEFAULT, at as field};
+use sifli::query::{Clocks, FORMER, Query};
 use sifli::random::Random;
-use std::collections::BTreeSet;
 use std::io;
 use std::path::Path;
-
-const FILE: &str = "config.txt";
-
-/// The words of the journal; its length is not in a line.
-const JOURNAL: usize = 128;
 
 /// The most answers in a line.
 const MOST_ANSWERS: usize = 60;
 
-/// Writes the file. Journals that are too short and answers that are too many
-/// are not in it, so 17 and 18 are not either.
 pub fn write(directory: &Path) -> io::Result<()> {
-    let mut lines = Lines::new();
-    let mut refusals = BTreeSet::new();
-    for call in &CALLS {
-        let mut list = List {
-            lines: &mut lines,
-            call,
-            answers: BTreeSet::new(),
-        };
+    write_calls(directory, "config.txt", config(), |lines| {
+        let mut list = List(lines);
         clocks_and_plans(&mut list);
         supply_modes(&mut list);
         measurements(&mut list);
@@ -47,74 +32,32 @@ pub fn write(directory: &Path) -> io::Result<()> {
         cut(&mut list);
         refused(&mut list);
         random(&mut list);
-        list.complete()?;
-        refusals.extend(call.refusals);
-    }
-    let refusals: Vec<usize> = refusals.into_iter().filter(|r| recorded(r)).collect();
-    lines.write(directory, FILE, &refusals, 1)
-}
-
-fn recorded(refusal: &usize) -> bool {
-    !matches!(refusal, 17 | 18)
+    })
 }
 
 /// The lines of one call.
-struct List<'a> {
-    lines: &'a mut Lines,
-    call: &'static Call,
-    /// The refusals and values that came.
-    answers: BTreeSet<(u64, u64)>,
-}
+struct List<'a, 'b>(&'a mut CallLines<'b>);
 
-impl List<'_> {
+impl List<'_, '_> {
     fn add(&mut self, head: &[u8], plan: &[u8], answers: &[u16]) {
         self.add_former(head, plan, FORMER, answers);
     }
 
     fn add_former(&mut self, head: &[u8], plan: &[u8], clocks: Frequencies, answers: &[u16]) {
-        let call = self.call;
-        let input = Input {
-            call,
+        self.0.add(&Query {
             plan,
             clocks,
-            head,
-            journal: JOURNAL,
             answers,
-        };
-        let ran = input.original();
-        let mut text = format!(
-            "{} {} {} {} {} {}",
-            ran.refusal(),
-            ran.value(),
-            ran.entries().len(),
-            ran.taken(),
-            hex_words(ran.entries(), 8),
-            hex(ran.head()),
-        );
-        if call.is_lent_plan() {
-            text.push(' ');
-            text.push_str(&hex_words(ran.clocks(), 8));
-        }
-        self.answers.insert((ran.refusal(), ran.value()));
-        self.lines.add(input.to_string(), (ran.refusal(), text));
+            ..Query::on(self.0.call, head)
+        });
     }
 
-    /// All refusals of the call are there, and the values of a done `init`.
-    fn complete(&self) -> io::Result<()> {
-        let mut wanted: Vec<(u64, u64)> = Vec::new();
-        let refusals = self.call.refusals.iter().filter(|r| recorded(r));
-        wanted.extend(refusals.map(|&refusal| (refusal as u64, 0)));
-        if self.call.clocks == Clocks::Written {
-            wanted.extend([(0, 31), (0, 33)]);
-        }
-        match wanted.iter().find(|answer| !self.answers.contains(answer)) {
-            None => Ok(()),
-            Some((refusal, value)) => {
-                let name = self.call.name;
-                let text = format!("{FILE}: no {name} answers {refusal} with {value}");
-                Err(io::Error::other(text))
-            }
-        }
+    fn is_lent_plan(&self) -> bool {
+        self.0.call.is_lent_plan
+    }
+
+    fn clocks(&self) -> Clocks {
+        self.0.call.clocks
     }
 }
 
@@ -122,10 +65,10 @@ impl List<'_> {
 fn clocks_and_plans(list: &mut List) {
     let [ready, ..] = few_lists();
     let plans = few_plans();
-    let plans = match list.call.clocks {
-        Clocks::None => &plans[..1],
+    let plans = match list.clocks() {
         Clocks::Written => &plans[..],
         Clocks::Former => &plans[1..5],
+        _ => &plans[..1],
     };
     for head in few_cores() {
         for plan in plans {
@@ -142,7 +85,7 @@ fn clocks_and_plans(list: &mut List) {
 
 /// Every pair of supply modes with the core on DLL1, and a core that is too fast.
 fn supply_modes(list: &mut List) {
-    if !list.call.is_lent_plan() {
+    if !list.is_lent_plan() {
         return;
     }
     for present in MODE_STAGES {
@@ -158,10 +101,10 @@ fn supply_modes(list: &mut List) {
 
 /// Searches with each last difference, those of `init` fewer.
 fn measurements(list: &mut List) {
-    let (lengths, lasts): (&[usize], &[u16]) = match list.call.clocks {
-        Clocks::None => (&[1, 2, 6, 10, SEARCH], &DIFFERENCES),
+    let (lengths, lasts): (&[usize], &[u16]) = match list.clocks() {
         Clocks::Written => (&[1, SEARCH], &[63, 64, 160, 161]),
         Clocks::Former => return,
+        _ => (&[1, 2, 6, 10, SEARCH], &DIFFERENCES),
     };
     let head = buffer(&plain(), 0);
     for &length in lengths {
@@ -181,7 +124,7 @@ fn measurements(list: &mut List) {
 /// DLL2 as the plan has it, nearly so and off; pairs of flash selects and of hpbg
 /// flags.
 fn dlls_and_selects(list: &mut List) {
-    if !list.call.is_lent_plan() {
+    if !list.is_lent_plan() {
         return;
     }
     let plan = default_with(&[(field::CALIBRATE, 0)]);
@@ -190,7 +133,7 @@ fn dlls_and_selects(list: &mut List) {
         put_register(&mut head, 4, dll2);
         list.add(&head, &plan, &[1, 1]);
     }
-    if list.call.clocks == Clocks::Former {
+    if list.clocks() == Clocks::Former {
         return;
     }
     for selects in 0..16 {
@@ -204,14 +147,14 @@ fn dlls_and_selects(list: &mut List) {
 /// A list that is just enough, cut at every length.
 fn cut(list: &mut List) {
     let mut head = buffer(&plain(), 0);
-    if list.call.clocks != Clocks::None {
+    if list.clocks() != Clocks::None {
         put_flags(&mut head, 2);
     }
     let measured = [0, 1, 900, 1000, 3, 1000, 1000];
-    let answers = match list.call.clocks {
-        Clocks::None => measured.to_vec(),
+    let answers = match list.clocks() {
         Clocks::Written => [&[0, 1], &measured[..], &[1, 0, 1]].concat(),
         Clocks::Former => vec![0, 0, 1],
+        _ => measured.to_vec(),
     };
     for length in 0..=answers.len() {
         list.add(&head, &DEFAULT, &answers[..length]);
@@ -233,7 +176,7 @@ fn refused(list: &mut List) {
     for changes in faults {
         list.add(&with(good, changes), &DEFAULT, &ready);
     }
-    if !list.call.is_lent_plan() {
+    if !list.is_lent_plan() {
         return;
     }
     for plan in refused_plans() {
@@ -254,7 +197,7 @@ fn random(list: &mut List) {
             0 => damaged(&mut random),
             _ => head(&mut random, &plan),
         };
-        let is_measuring = list.call.clocks != Clocks::Former;
+        let is_measuring = list.clocks() != Clocks::Former;
         let mut answers = answers(&mut random, &head, is_measuring);
         answers.truncate(MOST_ANSWERS);
         list.add_former(&head, &plan, clocks(&mut random), &answers);

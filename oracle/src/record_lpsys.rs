@@ -5,39 +5,22 @@ use crate::heads::{
     Buffer, DIVIDERS, buffer, busy, damaged, few_heads, plain, put_flags, put_register, task, with,
     with_tasks,
 };
-use crate::lpsys::{Call, Input, calls};
 use crate::lpsys_inputs::{answers, arguments, ends, few_lists, head, ready_at};
-use crate::ran::hex_words;
-use crate::record::Lines;
-use crate::tally::hex;
+use crate::record::{CallLines, write_calls};
+use sifli::calls::lpsys;
 use sifli::head::{BUFFER, at};
+use sifli::query::Query;
 use sifli::random::Random;
-use std::collections::BTreeSet;
 use std::io;
 use std::path::Path;
-
-const FILE: &str = "lpsys.txt";
-
-/// Every answer of some call is there at least this often.
-const FEWEST: usize = 1;
-
-/// The words of the journal; its length is not in a line.
-const JOURNAL: usize = 128;
 
 /// The most answers in a line, which keeps it below 2,000 characters.
 const MOST_ANSWERS: usize = 100;
 
-/// Writes the file. Journals that are too short and answers that are too many
-/// are not in it, so 17 and 18 are not either.
 pub fn write(directory: &Path) -> io::Result<()> {
-    let mut lines = Lines::new();
-    let mut refusals = BTreeSet::new();
-    for call in calls() {
-        let mut list = List {
-            lines: &mut lines,
-            call,
-        };
-        if call.refusals.contains(&15) {
+    write_calls(directory, "lpsys.txt", lpsys(), |lines| {
+        let mut list = List(lines);
+        if list.0.call.refusals.contains(&15) {
             requests(&mut list);
         }
         clocks(&mut list);
@@ -46,50 +29,28 @@ pub fn write(directory: &Path) -> io::Result<()> {
         wake_counts(&mut list);
         refused(&mut list);
         random(&mut list);
-        refusals.extend(call.refusals);
-    }
-    let refusals: Vec<usize> = refusals
-        .into_iter()
-        .filter(|refusal| !matches!(refusal, 17 | 18))
-        .collect();
-    lines.write(directory, FILE, &refusals, FEWEST)
+    })
 }
 
 /// The lines of one call.
-struct List<'a> {
-    lines: &'a mut Lines,
-    call: &'static Call,
-}
+struct List<'a, 'b>(&'a mut CallLines<'b>);
 
-impl List<'_> {
+impl List<'_, '_> {
     fn add(&mut self, head: &[u8], arguments: [u32; 3], answers: &[u16]) {
-        let input = Input {
-            call: self.call,
+        self.0.add(&Query {
             arguments,
-            head,
-            journal: JOURNAL,
             answers,
-        };
-        let ran = input.original();
-        let text = format!(
-            "{} {} {} {} {} {}",
-            ran.refusal(),
-            ran.value(),
-            ran.entries().len(),
-            ran.taken(),
-            hex_words(ran.entries(), 8),
-            hex(ran.head()),
-        );
-        self.lines.add(input.to_string(), (ran.refusal(), text));
+            ..Query::on(self.0.call, head)
+        });
     }
 
     /// With the first arguments that are not refused, and enough answers.
     fn add_plain(&mut self, head: &[u8]) {
         let mut arguments = [0; 3];
-        for (value, argument) in arguments.iter_mut().zip(self.call.arguments) {
+        for (value, argument) in arguments.iter_mut().zip(self.0.call.arguments) {
             *value = argument.ends[1];
         }
-        let lists = few_lists(self.call);
+        let lists = few_lists(self.0.call);
         self.add(head, arguments, &lists[lists.len() - 1]);
     }
 }
@@ -126,6 +87,7 @@ fn requests(list: &mut List) {
 /// and a divider.
 fn clocks(list: &mut List) {
     if !list
+        .0
         .call
         .refusals
         .iter()
@@ -143,7 +105,7 @@ fn clocks(list: &mut List) {
 
 /// The arguments at their ends: each choice, or every fifth of many.
 fn ends_of_arguments(list: &mut List) {
-    let (arguments, heads) = (ends(list.call), few_heads());
+    let (arguments, heads) = (ends(list.0.call), few_heads());
     let step = if arguments.len() > 16 { 5 } else { 1 };
     for (arguments, head) in arguments
         .into_iter()
@@ -157,7 +119,7 @@ fn ends_of_arguments(list: &mut List) {
 /// Waits that end at several places, and that do not, with one and with both
 /// HXT48 flags at 0; delays on several core clocks.
 fn waits(list: &mut List) {
-    if !list.call.is_lent_answers {
+    if !list.0.call.is_lent_answers {
         return;
     }
     let lists = [
@@ -208,8 +170,8 @@ fn random(list: &mut List) {
             0 => damaged(&mut random),
             _ => head(&mut random),
         };
-        let mut answers = answers(&mut random, list.call);
+        let mut answers = answers(&mut random, list.0.call);
         answers.truncate(MOST_ANSWERS);
-        list.add(&head, arguments(&mut random, list.call), &answers);
+        list.add(&head, arguments(&mut random, list.0.call), &answers);
     }
 }
