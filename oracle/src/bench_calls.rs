@@ -2,7 +2,8 @@
 
 use crate::bench::{Row, Side, decoded, decoded_head, side};
 use crate::change_inputs::{self, Core, with_core};
-use crate::config_inputs::{HXT48, SEARCH, search};
+use crate::config_inputs::{SEARCH, search};
+use crate::config_plans::HXT48;
 use crate::heads::{Buffer, buffer, busy, plain, put_flags, put_register};
 use crate::ours;
 use crate::task_inputs::{Order, light_list, with_light_tasks};

@@ -1,33 +1,28 @@
 //! The calls of `rcc/clock_config.rs` of librikkovan.a against the original's.
 
 use crate::compare::Extent;
+use crate::compare_config_plans;
 use crate::config_inputs::{
-    DIFFERENCES, SEARCH, accepted, answers, around, clocks, few_cores, few_lists, few_plans,
-    first_waits, head, plan, present_clocks, search, searches, targets,
+    DIFFERENCES, SEARCH, answers, around, clocks, few_cores, few_lists, first_waits, head,
+    present_clocks, search, searches,
 };
+use crate::config_plans::{accepted, few_plans, plan, targets};
 use crate::groups::{Groups, Number, Report};
 use crate::heads::{
     DIVIDERS, LONGEST, buffer, busy, damaged_or_any, dlls, few_heads, journal, plain, put_flags,
     put_register, task, with, with_tasks,
 };
-use crate::plans::{self, Record, STAGES, default_with, of_length, put_dll};
+use crate::plans::{Record, STAGES, default_with};
 use crate::tally::Tally;
 use sifli::call::MOST_ANSWERS;
 use sifli::calls::config;
 use sifli::head::{BUFFER, at};
-use sifli::plan::{DEFAULT, LARGEST, LENGTH, at as field};
+use sifli::plan::{DEFAULT, at as field};
 use sifli::query::{Call, Clocks, Query};
 use sifli::random::Random;
 
-const RANDOM: Number = Number {
-    full: 1_000_000,
-    quick: 400_000,
-};
-
-const DAMAGED: Number = Number {
-    full: 400_000,
-    quick: 60_000,
-};
+const RANDOM: Number = Number::new(1_000_000, 400_000);
+const DAMAGED: Number = Number::new(400_000, 60_000);
 
 /// Plans from which those of random calls are drawn.
 const ACCEPTED: usize = 4000;
@@ -44,7 +39,7 @@ fn groups(call: &'static Call, extent: Extent) -> Report {
     groups.group("supply modes", |tally| supply_modes(tally, call, quick));
     groups.group("core clocks", |tally| core_clocks(tally, call, quick));
     if call.is_lent_plan {
-        plan_groups(&mut groups, call, quick);
+        compare_config_plans::run(&mut groups, call, quick);
     }
     groups.group("boot modes and ready flags", |tally| {
         boot_modes(tally, call)
@@ -70,20 +65,8 @@ fn groups(call: &'static Call, extent: Extent) -> Report {
     groups.finish(call.refusals)
 }
 
-fn plan_groups(groups: &mut Groups, call: &'static Call, quick: bool) {
-    groups.group("plan bytes", |tally| plan_bytes(tally, call, quick));
-    groups.group("pairs of plan fields", |tally| {
-        plan_pairs(tally, call, quick)
-    });
-    groups.group("plan lengths 0 to 40", |tally| plan_lengths(tally, call));
-    groups.group("DLLs and flash selects", |tally| {
-        dlls_and_selects(tally, call, quick)
-    });
-    groups.group("every DLL2", |tally| every_dll2(tally, call, quick));
-}
-
 /// A call with a journal of the usual length.
-fn on(tally: &mut Tally, call: &'static Call, head: &[u8], plan: &[u8], answers: &[u16]) {
+pub fn on(tally: &mut Tally, call: &'static Call, head: &[u8], plan: &[u8], answers: &[u16]) {
     tally.compare(&Query {
         plan,
         answers,
@@ -140,126 +123,6 @@ fn core_clocks(tally: &mut Tally, call: &'static Call, quick: bool) {
                         on(tally, call, &buffer, plan, &ready);
                     }
                 }
-            }
-        }
-    }
-}
-
-/// Some plans with each byte at all values.
-fn plan_bytes(tally: &mut Tally, call: &'static Call, quick: bool) {
-    let heads = few_cores();
-    let heads = if quick { &heads[..2] } else { &heads };
-    let [ready, ..] = few_lists();
-    for good in few_plans() {
-        for index in 0..LENGTH {
-            for byte in 0..=255 {
-                let mut plan = good;
-                plan[index] = byte;
-                for head in heads {
-                    on(tally, call, head, &plan, &ready);
-                }
-            }
-        }
-    }
-}
-
-/// Some plans with each pair of fields at all codes, hdiv at some.
-fn plan_pairs(tally: &mut Tally, call: &'static Call, quick: bool) {
-    let codes = |index: usize| match index {
-        field::HDIV => DIVIDERS.to_vec(),
-        _ => (0..=LARGEST[index - field::CORE]).collect(),
-    };
-    let heads = few_cores();
-    let heads = if quick { &heads[4..5] } else { &heads };
-    let few = few_plans();
-    let few = if quick { &few[..2] } else { &few };
-    let [ready, ..] = few_lists();
-    for first in field::CORE..LENGTH {
-        for second in first + 1..LENGTH {
-            for byte in codes(first) {
-                for other in codes(second) {
-                    for &good in few {
-                        let mut plan = good;
-                        (plan[first], plan[second]) = (byte, other);
-                        for head in heads {
-                            on(tally, call, head, &plan, &ready);
-                        }
-                    }
-                }
-            }
-        }
-    }
-}
-
-/// Plans of every length, on heads that are refused and that are not.
-fn plan_lengths(tally: &mut Tally, call: &'static Call) {
-    let [ready, ..] = few_lists();
-    let good = buffer(&busy(), 0);
-    let heads = [good, with(good, &[(at::VERSION, 2)]), [0; BUFFER]];
-    for length in 0..=plans::LONGEST {
-        for plan in of_length(length) {
-            for head in &heads {
-                on(tally, call, head, &plan, &ready);
-            }
-        }
-    }
-}
-
-/// Both DLLs in the plan or not, set or not, as the plan has them or not; every
-/// pair of flash selects and of hpbg flags. In the full run with answers that
-/// end at either DLL.
-fn dlls_and_selects(tally: &mut Tally, call: &'static Call, quick: bool) {
-    let lists = if quick {
-        vec![vec![1, 1]]
-    } else {
-        vec![vec![1, 1], vec![1], vec![0, 1, 0], vec![]]
-    };
-    for setting in 0..1 << 11 {
-        let bit = |index: u32| (setting >> index & 1) as u8;
-        let mut plan = default_with(&[
-            (field::CALIBRATE, 0),
-            (field::USB, 0),
-            (field::MPI2, 0),
-            (field::CORE, 1 + 2 * bit(9)),
-        ]);
-        if bit(9) == 0 {
-            put_dll(&mut plan, field::DLL1, [0; 3]);
-        }
-        let planned = [[0; 3], [1, 11, 0], [1, 11, 1]];
-        for dll2 in planned {
-            put_dll(&mut plan, field::DLL2, dll2);
-            let mut buffer = buffer(&busy(), 0);
-            put_register(
-                &mut buffer,
-                5,
-                [0, setting as u8 & 3, setting as u8 >> 2 & 3],
-            );
-            put_register(&mut buffer, 11, [0, bit(4), bit(5)]);
-            put_register(&mut buffer, 4, [bit(6), bit(7), 11 - bit(8)]);
-            put_register(&mut buffer, 3, [bit(10), 0, 9]);
-            for answers in &lists {
-                on(tally, call, &buffer, &plan, answers);
-            }
-        }
-    }
-}
-
-/// Every DLL2 of the head with every DLL2 of the plan; quick with every fifth.
-fn every_dll2(tally: &mut Tally, call: &'static Call, quick: bool) {
-    let step = if quick { 5 } else { 1 };
-    for core in [1, 3] {
-        for dll2 in plans::dlls(&STAGES) {
-            let mut plan = default_with(&[
-                (field::CALIBRATE, 0),
-                (field::USB, 0),
-                (field::HDIV, 5),
-                (field::MPI2, 0),
-            ]);
-            put_dll(&mut plan, field::DLL2, dll2);
-            for present in dlls(&STAGES).into_iter().step_by(step) {
-                let mut buffer = with(buffer(&busy(), 0), &[(at::c(1), core)]);
-                put_register(&mut buffer, 4, present);
-                on(tally, call, &buffer, &plan, &[1, 0, 1]);
             }
         }
     }

@@ -5,7 +5,7 @@
 use crate::change_inputs::{answers, any_plan, fit_head, put_tasks};
 use crate::compare::Extent;
 use crate::compare_change::{ACCEPTED, holds};
-use crate::config_inputs::accepted;
+use crate::config_plans::accepted;
 use crate::groups::{Groups, Number, Report};
 use crate::heads::{Buffer, journal};
 use crate::plans::Record;
@@ -18,10 +18,7 @@ use sifli::query::{Id, Query, call};
 use sifli::random::Random;
 use sifli::readings;
 
-const CALLS: Number = Number {
-    full: 1_250_000,
-    quick: 500_000,
-};
+const CALLS: Number = Number::new(1_250_000, 500_000);
 
 /// The most calls of a list.
 const MOST_CALLS: usize = 24;

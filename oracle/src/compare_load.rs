@@ -10,15 +10,8 @@ use sifli::head::{LONGEST_PERIOD, MOST_TASKS, TASK, Task};
 use sifli::query::{Id, Query, call};
 use sifli::random::Random;
 
-const RANDOM: Number = Number {
-    full: 1_500_000,
-    quick: 300_000,
-};
-
-const DAMAGED: Number = Number {
-    full: 500_000,
-    quick: 60_000,
-};
+const RANDOM: Number = Number::new(1_500_000, 300_000);
+const DAMAGED: Number = Number::new(500_000, 60_000);
 
 pub fn run(extent: Extent) -> Report {
     let quick = extent.quick;

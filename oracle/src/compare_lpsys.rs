@@ -15,15 +15,8 @@ use sifli::head::at;
 use sifli::query::{Call, Query};
 use sifli::random::Random;
 
-const RANDOM: Number = Number {
-    full: 1_000_000,
-    quick: 400_000,
-};
-
-const DAMAGED: Number = Number {
-    full: 400_000,
-    quick: 60_000,
-};
+const RANDOM: Number = Number::new(1_000_000, 400_000);
+const DAMAGED: Number = Number::new(400_000, 60_000);
 
 /// Compares all groups of all calls.
 pub fn run(extent: Extent) -> Vec<Report> {

@@ -12,10 +12,7 @@ use sifli::plan::{self, DEFAULT, LENGTH, at};
 use sifli::query::Query;
 use sifli::random::Random;
 
-const RANDOM: Number = Number {
-    full: 10_000_000,
-    quick: 3_500_000,
-};
+const RANDOM: Number = Number::new(10_000_000, 3_500_000);
 
 pub fn run(extent: Extent) -> Report {
     let mut groups = Groups::of_original("plan_check", extent);

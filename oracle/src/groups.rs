@@ -26,8 +26,14 @@ pub struct Report {
 /// Random queries of a group in the full and in the quick run, where no number is
 /// asked for.
 pub struct Number {
-    pub full: u64,
-    pub quick: u64,
+    full: u64,
+    quick: u64,
+}
+
+impl Number {
+    pub const fn new(full: u64, quick: u64) -> Self {
+        Self { full, quick }
+    }
 }
 
 impl Groups {

@@ -155,6 +155,17 @@ impl Left {
     }
 }
 
+/// Words from a first one on, no two alike.
+pub const fn numbered<const N: usize>(first: u32) -> [u32; N] {
+    let mut words = [first; N];
+    let mut index = 0;
+    while index < N {
+        words[index] += index as u32;
+        index += 1;
+    }
+    words
+}
+
 /// What is lent, between fences no two elements of which are alike.
 fn fenced<T: Copy>(lent: &[T], element: impl Fn(u32) -> T) -> Vec<T> {
     let mut memory = Vec::with_capacity(lent.len() + 2 * FENCE);

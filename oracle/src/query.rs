@@ -3,7 +3,7 @@
 use crate::call::Frequencies;
 use crate::calls::CALLS;
 use crate::hex;
-use crate::lent::{Left, Lent};
+use crate::lent::{Left, Lent, numbered};
 use std::fmt::{self, Debug, Display, Formatter};
 use std::ops::RangeInclusive;
 
@@ -152,15 +152,7 @@ impl<'a> Query<'a> {
 }
 
 /// Clocks that no reading gives, no two alike.
-pub const FORMER: Frequencies = {
-    let mut clocks = [0xC10C_0000; 15];
-    let mut index = 0;
-    while index < clocks.len() {
-        clocks[index] += index as u32;
-        index += 1;
-    }
-    clocks
-};
+pub const FORMER: Frequencies = numbered(0xC10C_0000);
 
 /// # Panics
 ///

@@ -2,7 +2,7 @@
 
 use crate::ffi;
 use sifli::head;
-use sifli::lent::REFUSED;
+use sifli::lent::{REFUSED, numbered};
 use sifli::readings;
 
 /// The lent memory: the 15 frequencies and the six of LPSYS, each between two
@@ -14,15 +14,7 @@ const LPSYS: usize = 17;
 
 /// What the lent memory holds before the calls: no two elements alike, and no
 /// frequency.
-const BEFORE: Lent = {
-    let mut lent = [0xA5A5_A500; 24];
-    let mut index = 0;
-    while index < lent.len() {
-        lent[index] += index as u32;
-        index += 1;
-    }
-    lent
-};
+const BEFORE: Lent = numbered(0xA5A5_A500);
 
 #[derive(Clone, PartialEq, Eq)]
 pub struct Read {

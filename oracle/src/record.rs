@@ -109,6 +109,15 @@ impl<'a> CallLines<'a> {
         self.lines.add(query.to_string(), (left.refusal(), text));
     }
 
+    /// A call with a plan and answers.
+    pub fn planned(&mut self, head: &[u8], plan: &[u8], answers: &[u16]) {
+        self.add(&Query {
+            plan,
+            answers,
+            ..Query::on(self.call, head)
+        });
+    }
+
     /// Every refusal of the call is there, and every value of a done `init`.
     pub fn complete(&self) -> io::Result<()> {
         let refusals = recorded(self.call);
