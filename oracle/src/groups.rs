@@ -131,7 +131,7 @@ fn print_table(title: &str, reports: &[Report], pick: impl Fn(&Report) -> &Tally
             entries => entries.to_string(),
         };
         println!(
-            "| `{}` | {} | {} | {} | {entries} | {} |",
+            "| {} | {} | {} | {} | {entries} | {} |",
             report.call,
             report.rule,
             grouped(tally.compared),

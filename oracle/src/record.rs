@@ -118,23 +118,26 @@ impl<'a> CallLines<'a> {
         });
     }
 
-    /// Every refusal of the call is there, and every value of a done `init`.
-    pub fn complete(&self) -> io::Result<()> {
-        let refusals = recorded(self.call);
-        let mut wanted: Vec<(u64, u64)> = refusals.map(|refusal| (refusal as u64, 0)).collect();
-        if self.call.id == Id::Init {
-            wanted.extend([(0, 31), (0, 33)]);
-        }
-        // The value of a done call may be any.
-        wanted.retain(|&answer| answer != (0, 0));
-        match wanted.iter().find(|answer| !self.came.contains(answer)) {
-            None => Ok(()),
-            Some((refusal, value)) => {
-                let name = self.call.name;
-                Err(io::Error::other(format!(
-                    "no {name} answers {refusal} with {value}"
-                )))
+    /// Every answer of the call is there, and every value of a done `init`.
+    fn complete(&self) -> io::Result<()> {
+        let name = self.call.name;
+        let lacks = |what: String| Err(io::Error::other(format!("no {name} answers {what}")));
+        for refusal in recorded(self.call) {
+            if !self.came.iter().any(|came| came.0 == refusal as u64) {
+                return lacks(refusal.to_string());
             }
+        }
+        let values = if self.call.id == Id::Init {
+            &[0, 31, 33][..]
+        } else {
+            &[]
+        };
+        match values
+            .iter()
+            .find(|&&value| !self.came.contains(&(0, value)))
+        {
+            Some(value) => lacks(format!("0 with {value}")),
+            None => Ok(()),
         }
     }
 }
