@@ -13,8 +13,8 @@ use std::hint::black_box;
 use std::time::Instant;
 
 /// Every round makes so many calls by each side of a row, one side after the other.
-const CALLS: usize = 1000;
-const ROUNDS: usize = 101;
+const CALLS: usize = 200;
+const ROUNDS: usize = 501;
 
 /// A side of a row: makes its call `CALLS` times.
 pub type Side = Box<dyn FnMut()>;

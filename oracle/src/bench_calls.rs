@@ -161,45 +161,44 @@ fn lpsys_in_place(id: Id) -> Original {
 
 /// A cold head has the core on HXT48, which is not ready, and nothing else set.
 fn config_rows() -> [Row; 6] {
-    let mut cold = buffer(&plain(), 0);
+    let ready = buffer(&plain(), 0);
+    let mut cold = ready;
     put_flags(&mut cold, 2);
     let fast = buffer(&busy(), 0);
     let mut slow = fast;
     put_register(&mut slow, 1, [0, 0, 1]);
     put_register(&mut slow, 12, [0, 0, 1]);
-    let calibrating = |name, answers: Vec<u16>| {
-        let head = buffer(&plain(), 0);
+    let row = |name, id, head: &Buffer, plan: &[u8], answers: &[u16], original| {
         let query = Query {
-            answers: &answers,
-            ..Query::on(call(Id::Calibrate), &head)
+            plan,
+            answers,
+            ..Query::on(call(id), head)
         };
-        of_original(name, query, |_, _| {
+        of_original(name, query, original)
+    };
+    let calibrating = |name, answers: Vec<u16>| {
+        row(name, Id::Calibrate, &ready, &[], &answers, |_, _| {
             call::calibrate_in_place().expect("a search that ends")
         })
     };
     let initial = |name, measured: Vec<u16>| {
-        let query = Query {
-            plan: &DEFAULT,
-            answers: &[&[1], &measured[..], &[1, 1]].concat(),
-            ..Query::on(call(Id::Init), &cold)
-        };
-        of_original(name, query, |_, plan| call::init_in_place(plan))
+        let answers = [&[1], &measured[..], &[1, 1]].concat();
+        row(name, Id::Init, &cold, &DEFAULT, &answers, |_, plan| {
+            call::init_in_place(plan)
+        })
     };
     let changing = |name, head, plan| {
-        let query = Query {
-            plan,
-            answers: &[1],
-            ..Query::on(call(Id::Reconfigure), head)
-        };
-        of_original(name, query, |_, plan| call::reconfigure_in_place(plan))
+        row(name, Id::Reconfigure, head, plan, &[1], |_, plan| {
+            call::reconfigure_in_place(plan)
+        })
     };
     [
         calibrating("calibrate_hrc48, 1 measurement", search(1, 0, 0)),
         calibrating("calibrate_hrc48, 11", search(SEARCH, 64, !0)),
         initial("init of a cold head, 1 measurement", search(1, 0, 0)),
         initial("init of a cold head, 11", search(SEARCH, 64, !0)),
-        changing("reconfigure_sysclk, 240 to 48 MHz", &fast, &HXT48),
-        changing("reconfigure_sysclk, 48 to 240 MHz", &slow, &DEFAULT),
+        changing("reconfigure_sysclk, 240 to 48 MHz", &fast, &HXT48[..]),
+        changing("reconfigure_sysclk, 48 to 240 MHz", &slow, &DEFAULT[..]),
     ]
 }
 

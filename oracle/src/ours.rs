@@ -14,25 +14,29 @@ pub fn differs(query: &Query) -> bool {
     ours(query) != query.wanted()
 }
 
+/// A call of `rcc/clock_config.rs`.
+macro_rules! of_config {
+    ($name:ident) => {
+        |query, lent| {
+            let call: ffi_config::Exported = ffi_config::$name;
+            let (plan, answers) = (query.plan, query.answers);
+            call(lent.bytes, plan, lent.clocks, lent.journal, answers)
+        }
+    };
+}
+
+/// A call of LPSYS.
+macro_rules! of_lpsys {
+    ($name:ident) => {
+        |query, lent| {
+            let call: ffi_lpsys::Exported = ffi_lpsys::$name;
+            call(lent.bytes, query.arguments, lent.journal, query.answers)
+        }
+    };
+}
+
 /// The exported call.
 pub fn side(call: &Call) -> Side {
-    macro_rules! of_config {
-        ($name:ident) => {
-            |query, lent| {
-                let call: ffi_config::Exported = ffi_config::$name;
-                let (plan, answers) = (query.plan, query.answers);
-                call(lent.bytes, plan, lent.clocks, lent.journal, answers)
-            }
-        };
-    }
-    macro_rules! of_lpsys {
-        ($name:ident) => {
-            |query, lent| {
-                let call: ffi_lpsys::Exported = ffi_lpsys::$name;
-                call(lent.bytes, query.arguments, lent.journal, query.answers)
-            }
-        };
-    }
     match call.id {
         Id::PlanCheck => |query, _| match ffi::plan_check(query.plan) {
             0 => 0,

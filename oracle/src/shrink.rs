@@ -4,6 +4,7 @@ use crate::call::Frequencies;
 use crate::head::{BUFFER, Head, TASK, at, decode};
 use crate::plan::DEFAULT;
 use crate::query::{Id, JOURNAL, Owned, Query};
+use std::mem::take;
 
 /// The most queries that are asked.
 const MOST_ASKED: usize = 200_000;
@@ -32,13 +33,16 @@ impl<F: Fn(&Query) -> bool> Shrinking<F> {
     fn pass(&mut self) -> bool {
         let before = self.smallest.clone();
         self.answers();
-        self.number(JOURNAL as u32, |query| &mut query.journal);
+        let journal = self.smallest.journal as u32;
+        self.toward(journal, JOURNAL as u32, |query, words: u32| {
+            query.journal = words as usize;
+        });
         self.tasks();
         self.bytes();
         self.list(&DEFAULT, |query| &mut query.plan);
         self.step(|query| query.clocks = Frequencies::default());
-        for place in 0..3 {
-            self.number(0, |query| &mut query.arguments[place]);
+        for (place, argument) in before.arguments.into_iter().enumerate() {
+            self.toward(argument, 0, |query, value| query.arguments[place] = value);
         }
         self.smallest != before
     }
@@ -58,20 +62,17 @@ impl<F: Fn(&Query) -> bool> Shrinking<F> {
         shows
     }
 
-    /// A number toward another.
-    fn number<T: Copy + TryInto<u32> + TryFrom<u32>>(
-        &mut self,
-        to: u32,
-        field: impl Fn(&mut Owned) -> &mut T,
-    ) {
-        let Ok(from) = (*field(&mut self.smallest.clone())).try_into() else {
-            return;
-        };
-        for number in between(from, to) {
+    /// Puts numbers from `to` on that come nearer and nearer to `from`, up to the first
+    /// that shows the same.
+    fn toward<T: Copy + TryFrom<u32>>(&mut self, from: u32, to: u32, put: impl Fn(&mut Owned, T)) {
+        let whole = from.abs_diff(to);
+        let parts = (0..u32::BITS).map(|halvings| whole >> halvings);
+        for part in parts.take_while(|&part| part > 0) {
+            let number = if from > to { from - part } else { from + part };
             let Ok(number) = T::try_from(number) else {
-                continue;
+                return;
             };
-            if self.step(|query| *field(query) = number) {
+            if self.step(|query| put(query, number)) {
                 return;
             }
         }
@@ -100,34 +101,37 @@ impl<F: Fn(&Query) -> bool> Shrinking<F> {
             }
             return;
         }
-        let Ok(head) = decode(&self.smallest.bytes) else {
+        let Ok(mut head) = decode(&self.smallest.bytes) else {
             return;
         };
-        self.step(|query| with_tasks(query, &head, |_| false));
+        let tasks = take(&mut head.tasks);
+        if self.step(|query| query.bytes = encoded(&head)) {
+            return;
+        }
+        head.tasks = tasks;
         for place in (0..head.tasks.len()).rev() {
-            let Ok(head) = decode(&self.smallest.bytes) else {
-                return;
-            };
-            self.step(|query| with_tasks(query, &head, |index| index != place));
+            let task = head.tasks.remove(place);
+            if !self.step(|query| query.bytes = encoded(&head)) {
+                head.tasks.insert(place, task);
+            }
         }
     }
 
     /// Registers and bytes of a plain head; of tasks, bytes toward 0.
     fn bytes(&mut self) {
-        let mut plain_bytes = [0; BUFFER];
         if self.smallest.call.id == Id::LoadCheck {
             return self.list(&[], |query| &mut query.bytes);
         }
-        Head::plain().encode(&mut plain_bytes);
+        let plain = encoded(&Head::plain());
+        self.step(|query| query.bytes.clone_from(&plain));
         if self.smallest.bytes.len() == BUFFER {
-            self.step(|query| query.bytes.copy_from_slice(&plain_bytes));
             for number in 1..=34 {
                 let register = at::a(number)..=at::c(number);
-                let plain = &plain_bytes[register.clone()];
-                self.step(|query| query.bytes[register].copy_from_slice(plain));
+                let bytes = &plain[register.clone()];
+                self.step(|query| query.bytes[register].copy_from_slice(bytes));
             }
         }
-        self.list(&plain_bytes, |query| &mut query.bytes);
+        self.list(&plain, |query| &mut query.bytes);
     }
 
     /// A list toward another: its length, then its elements, 0 past the other's end.
@@ -136,49 +140,23 @@ impl<F: Fn(&Query) -> bool> Shrinking<F> {
         to: &[T],
         field: impl Fn(&mut Owned) -> &mut Vec<T> + Copy,
     ) {
-        let length = field(&mut self.smallest.clone()).len();
-        for shorter in between(length as u32, to.len() as u32) {
-            if self.step(|query| field(query).resize(shorter as usize, T::default())) {
-                break;
-            }
-        }
-        let elements = field(&mut self.smallest.clone()).clone();
+        let length = field(&mut self.smallest).len();
+        self.toward(length as u32, to.len() as u32, |query, length: u32| {
+            field(query).resize(length as usize, T::default());
+        });
+        let elements = field(&mut self.smallest).clone();
         for (place, element) in elements.into_iter().enumerate() {
             let target = to.get(place).copied().unwrap_or_default();
-            for number in between(element.into(), target.into()) {
-                let Ok(number) = T::try_from(number) else {
-                    continue;
-                };
-                if self.step(|query| field(query)[place] = number) {
-                    break;
-                }
-            }
+            self.toward(element.into(), target.into(), |query, element| {
+                field(query)[place] = element;
+            });
         }
     }
 }
 
-/// Puts the head with some of its tasks into the buffer, and 0 past its record.
-fn with_tasks(query: &mut Owned, head: &Head, is_kept: impl Fn(usize) -> bool) {
-    let mut head = head.clone();
-    let mut place = 0;
-    head.tasks.retain(|_| {
-        place += 1;
-        is_kept(place - 1)
-    });
+/// A head's buffer, 0 past its record.
+fn encoded(head: &Head) -> Vec<u8> {
     let mut buffer = [0; BUFFER];
     head.encode(&mut buffer);
-    query.bytes = buffer.to_vec();
-}
-
-/// Numbers from `to` on that come nearer and nearer to `from`, which is not among
-/// them.
-fn between(from: u32, to: u32) -> impl Iterator<Item = u32> {
-    let whole = from.abs_diff(to);
-    let parts = (0..32).map(move |halvings| whole >> halvings);
-    parts
-        .take_while(|&part| part > 0)
-        .map(move |part| match from > to {
-            true => from - part,
-            false => from + part,
-        })
+    buffer.to_vec()
 }
