@@ -9,11 +9,18 @@ CXX = g++
 CFLAGS = -O2
 STRICT = -Wall -Wextra -pedantic -Wconversion -Wsign-conversion -Werror
 RT = rt
-BUILD_ORACLE = cargo build --release --quiet --offline --manifest-path oracle/Cargo.toml
+WITH_ORACLE = --release --quiet --offline --manifest-path oracle/Cargo.toml
 ORACLE = oracle/target/release/oracle
-RUNS = 2000000
-SEED = $(shell date +%s)
 SANITIZE = -O1 -g -fsanitize=address,undefined -fno-sanitize-recover=all
+
+# Of each random group of make compare: the queries, and the seconds at least.
+COUNT =
+SECONDS =
+# What the random groups, and the calls of make fuzz, are drawn from: a number, or random.
+SEED =
+# The calls of make fuzz.
+RUNS = 2000000
+RANDOM_GROUPS = $(COUNT:%=--count %) $(SECONDS:%=--seconds %) $(SEED:%=--seed %)
 
 LIBRARY = target/staticlib/librikkovan.a
 PROGRAMS = target/bin/lpset target/bin/moments
@@ -23,7 +30,7 @@ PLANS = $(sort $(wildcard examples/plans/*.plan))
 TASKS = $(sort $(wildcard examples/tasks/*.tasks))
 
 .DELETE_ON_ERROR:
-.PHONY: help lib run test test-c test-rust test-fuzz fuzz oracle oracle-library compare compare-quick compare-plans compare-heads record bench plans tasks heads install uninstall clean
+.PHONY: help lib run test test-c test-rust test-fuzz fuzz test-oracle oracle oracle-library compare compare-quick compare-plans compare-heads evidence record bench plans tasks heads install uninstall clean
 
 help:
 	@echo 'make run            prove the library, then check the example plans and tasks through it'
@@ -34,9 +41,11 @@ help:
 	@echo 'make test-c         test the library from C and C++'
 	@echo 'make test-rust      test the library from Rust, through bindings/rust'
 	@echo 'make fuzz           make hostile calls under the sanitizers (RUNS=$(RUNS), SEED)'
-	@echo 'make compare        compare the library with the Rust (compare-quick: a part of it)'
+	@echo 'make compare        compare the library with the Rust (compare-quick: a part of it);'
+	@echo '                    COUNT= and SECONDS= of each random group, SEED='
+	@echo 'make evidence       write docs/EVIDENCE.md anew from such a comparison'
 	@echo 'make record         write crates/replay/data anew from the Rust'
-	@echo 'make bench          measure the library and the Rust'
+	@echo 'make bench          measure every call beside the Rust'
 	@echo 'make plans          write examples/plans anew (make tasks, make heads: the others)'
 	@echo 'make clean          remove what was built'
 
@@ -78,19 +87,22 @@ build/fuzz-faults: tests/fuzz/faults.c build/fuzz
 		$(FUZZ) tests/fuzz/faults.c $(LIBRARY)
 
 fuzz: build/fuzz
-	build/fuzz --runs $(RUNS) --seed $(SEED)
+	build/fuzz --runs $(RUNS) --seed $(or $(filter-out random,$(SEED)),$(shell date +%s))
 
 test-fuzz: $(LIBRARY)
 	@CC='$(CC)' tests/fuzz/run.sh
 
 oracle-library:
-	$(BUILD_ORACLE) --lib
+	cargo build $(WITH_ORACLE) --lib
+
+test-oracle:
+	cargo test $(WITH_ORACLE) --lib
 
 oracle: $(LIBRARY)
-	$(BUILD_ORACLE)
+	cargo build $(WITH_ORACLE)
 
 compare: oracle
-	$(ORACLE) compare
+	$(ORACLE) compare $(RANDOM_GROUPS)
 
 # Two halves that take about the same time, one for each of two cores.
 compare-quick: oracle
@@ -101,6 +113,9 @@ compare-plans:
 
 compare-heads:
 	$(ORACLE) compare --quick --only heads --only lpsys --only change
+
+evidence: oracle
+	tools/evidence.sh $(RANDOM_GROUPS) >docs/EVIDENCE.md
 
 record: oracle
 	$(ORACLE) record crates/replay/data

@@ -73,6 +73,7 @@ test_rust() {
 
 compare() {
     if can_compare; then
+        stage 'tests of the oracle' part test-oracle
         stage 'comparison with the Rust' part compare-quick
     elif [ ! -d "$sources/sifli-hal/src" ]; then
         say "comparison with the Rust skipped: no sources at $sources (SIFLI_SRC names their folder)"

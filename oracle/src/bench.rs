@@ -1,158 +1,228 @@
-//! `oracle bench`: librikkovan.a beside the original.
+//! `oracle bench`: every call of librikkovan.a beside the original code, or beside
+//! the model of what the original has not, in one table.
 
-#[cfg(feature = "config")]
-use crate::bench_config;
+use crate::bench_calls;
 use crate::ffi;
-use crate::heads::{Buffer, random_with_tasks};
-use crate::plans::{self, Record, coded};
-use sifli::head::{self, MOST_TASKS};
-use sifli::plan;
+use crate::heads::{Buffer, buffer, busy, with_tasks};
+use crate::plans::{Record, coded, likely};
+use sifli::head::{self, BUFFER, Head, MOST_TASKS};
+use sifli::plan::{self, DEFAULT, LENGTH, Plan};
 use sifli::random::Random;
-use sifli::rcc::{Clocks, ConfigBuilder};
 use sifli::{readings, world};
 use std::hint::black_box;
 use std::time::Instant;
 
-/// Plans or heads of each sort.
-const INPUTS: usize = 1000;
-const ROUNDS: usize = 21;
-/// Calls on each plan or head in a round.
-const PASSES: usize = 100;
+/// Every round makes so many calls by each side of a row, one side after the other.
+const CALLS: usize = 200;
+const ROUNDS: usize = 501;
+
+/// A side of a row: makes its call `CALLS` times.
+pub type Side = Box<dyn FnMut()>;
+
+/// A call, and what stands beside it.
+pub struct Row {
+    pub name: &'static str,
+    /// The exported call.
+    pub ours: Side,
+    /// The original or the model on what was decoded before.
+    pub in_place: Option<Side>,
+    /// The same with the oracle's decoders before it and its encoder after it.
+    pub on_bytes: Side,
+    /// The bytes that are lent to the exported call.
+    pub lent: usize,
+}
+
+pub fn side<T>(mut call: impl FnMut() -> T + 'static) -> Side {
+    Box::new(move || {
+        for _ in 0..CALLS {
+            black_box(call());
+        }
+    })
+}
 
 pub fn run() {
-    println!(
-        "nanoseconds per call: median of {ROUNDS} rounds, each {PASSES} times {INPUTS} plans or heads"
-    );
-    plan_check();
-    println!("reading of the 15 frequencies");
-    read_clocks("(a) heads without tasks", 0);
-    read_clocks("(b) heads with 16 tasks", MOST_TASKS);
-    #[cfg(feature = "config")]
-    bench_config::run();
+    println!("{ROUNDS} rounds of {CALLS} calls by each side in turn. ns: median time of a call.");
+    println!("ratio: ours to the other, round by round: median, 10 and 90 percent points.");
+    let titles = [
+        "on what was decoded",
+        "decoding and encoding",
+        "copy of what is lent",
+    ];
+    print_line("", "", titles.map(str::to_string));
+    let columns = format!("{:>8}{:>7}{:>7}{:>7}", "ns", "ratio", "10%", "90%");
+    print_line("call", "ours ns", [(); 3].map(|()| columns.clone()));
+    let rows = plan_checks().into_iter().chain(readings());
+    rows.chain(bench_calls::rows()).for_each(measure);
 }
 
-fn plan_check() {
-    let accepted = plans(|answer| answer == 0);
-    let refused = plans(|answer| answer != 0);
-    let builders: Vec<ConfigBuilder> = accepted.iter().map(decoded).collect();
-    let [ours, check, with_decoder, ours_refused] = medians(
-        PASSES * INPUTS,
-        [
-            &mut || each(&accepted, |plan| ffi::plan_check(plan)),
-            &mut || each(&builders, |builder| builder.check()),
-            &mut || each(&accepted, |plan| decoded(plan).check()),
-            &mut || each(&refused, |plan| ffi::plan_check(plan)),
-        ],
-    );
-    println!("plan check");
-    println!("(a) accepted plans, which do not panic");
-    println!("    rikkovan, decodes the 20 bytes and checks: {ours:.1}");
-    println!("    original, checks a struct already decoded: {check:.1}");
-    println!("    ratio rikkovan / original: {:.2}", ours / check);
-    println!("(b) refused plans, where the original panics");
-    println!("    rikkovan, decodes the 20 bytes and checks: {ours_refused:.1}");
-    println!("(c) accepted plans, the oracle's decoder before the original");
-    println!("    original, decodes the 20 bytes and checks: {with_decoder:.1}");
-    println!("    ratio rikkovan / original: {:.2}", ours / with_decoder);
+fn print_line(name: &str, ours: &str, others: [String; 3]) {
+    let others = others.map(|other| format!(" |{other:29}"));
+    println!("{name:36}{ours:>8}{}", others.concat().trim_end());
 }
 
-/// The 15 frequencies of heads with so many tasks.
-fn read_clocks(title: &str, tasks: usize) {
-    let mut random = Random::new(0xBE7D);
-    let heads: Vec<Buffer> = (0..INPUTS)
-        .map(|_| random_with_tasks(&mut random, tasks))
-        .collect();
-    let [ours, in_place, with_decoder] = medians(
-        PASSES * INPUTS,
-        [
-            &mut || each_put(&heads, |_| (), rikkovan_clocks),
-            &mut || each_put(&heads, put, |_| readings::clocks_in_place()),
-            &mut || each_put(&heads, |_| (), decoded_clocks),
-        ],
-    );
-    println!("{title}");
-    println!("    rikkovan, decodes the 255 bytes and reads: {ours:.1}");
-    println!("    original, reads stand-in registers already in place: {in_place:.1}");
-    println!("    ratio rikkovan / original: {:.2}", ours / in_place);
-    println!("    original, the oracle decodes the 255 bytes before it: {with_decoder:.1}");
-    println!("    ratio rikkovan / original: {:.2}", ours / with_decoder);
-}
-
-fn rikkovan_clocks(head: &Buffer) -> [u32; 15] {
-    let mut clocks = [0; 15];
-    ffi::read_clocks(head, &mut clocks, 0);
-    clocks
-}
-
-fn decoded_clocks(head: &Buffer) -> Clocks {
-    put(head);
-    readings::clocks_in_place()
-}
-
-/// Decodes a head and puts it where the stand-in registers are.
-fn put(head: &Buffer) {
-    match head::decode(head) {
-        Ok(head) => world::begin(head, &[]),
-        Err(refusal) => panic!("a head with bytes in range is refused {refusal}"),
-    }
-}
-
-/// Plans of 20 bytes with codes in range whose answer is as wanted.
-fn plans(wanted: impl Fn(u64) -> bool) -> Vec<Record> {
-    let mut random = Random::new(0xBE7C);
-    let mut plans = Vec::new();
-    while plans.len() < INPUTS {
-        let plan = if random.once_in(2) {
-            plans::likely(&mut random)
-        } else {
-            coded(&mut random)
-        };
-        if wanted(plan::check(&plan)) {
-            plans.push(plan);
-        }
-    }
-    plans
-}
-
-fn decoded(plan: &Record) -> ConfigBuilder {
-    match plan::decode(plan) {
-        Ok(plan) => plan.builder(),
-        Err(refusal) => panic!("a plan with codes in range is refused {refusal}"),
-    }
-}
-
-/// Goes through the plans `PASSES` times.
-fn each<P, T>(plans: &[P], check: impl Fn(&P) -> T) {
-    for _ in 0..PASSES {
-        for plan in plans {
-            black_box(check(black_box(plan)));
-        }
-    }
-}
-
-/// Puts each head in place and then reads it `PASSES` times.
-fn each_put<T>(heads: &[Buffer], put: impl Fn(&Buffer), read: impl Fn(&Buffer) -> T) {
-    for head in heads {
-        put(head);
-        for _ in 0..PASSES {
-            black_box(read(black_box(head)));
-        }
-    }
-}
-
-/// The median nanoseconds per call of each side, which makes so many in a round;
-/// every round runs all sides in turn.
-pub fn medians<const N: usize>(number: usize, mut sides: [&mut dyn FnMut(); N]) -> [f64; N] {
-    let mut times = [const { Vec::new() }; N];
+/// Runs the sides of a row in turn, round by round, and prints it.
+fn measure(mut row: Row) {
+    let mut copied = copy(row.lent);
+    let mut sides = [
+        Some(&mut row.ours),
+        row.in_place.as_mut(),
+        Some(&mut row.on_bytes),
+        Some(&mut copied),
+    ];
+    let mut times = [const { Vec::new() }; 4];
     for _ in 0..ROUNDS {
         for (side, times) in sides.iter_mut().zip(&mut times) {
-            let began = Instant::now();
-            side();
-            times.push(began.elapsed().as_nanos() as f64 / number as f64);
+            if let Some(side) = side {
+                let began = Instant::now();
+                side();
+                times.push(began.elapsed().as_nanos() as f64 / CALLS as f64);
+            }
         }
     }
-    times.map(|mut times: Vec<f64>| {
-        times.sort_by(f64::total_cmp);
-        times[ROUNDS / 2]
+    let [ours, others @ ..] = &times;
+    let median = format!("{:.1}", point(ours, 50));
+    print_line(
+        row.name,
+        &median,
+        others.each_ref().map(|t| beside(ours, t)),
+    );
+}
+
+/// The other's median, and the ratio of ours to it with its spread; nothing where
+/// there is no other.
+fn beside(ours: &[f64], other: &[f64]) -> String {
+    if other.is_empty() {
+        return String::new();
+    }
+    let ratios: Vec<f64> = ours.iter().zip(other).map(|(a, b)| a / b).collect();
+    let [low, middle, high] = [10, 50, 90].map(|percent| point(&ratios, percent));
+    format!("{:8.1}{middle:7.2}{low:7.2}{high:7.2}", point(other, 50))
+}
+
+fn point(values: &[f64], percent: usize) -> f64 {
+    let mut values = values.to_vec();
+    values.sort_by(f64::total_cmp);
+    values[(values.len() - 1) * percent / 100]
+}
+
+fn copy(bytes: usize) -> Side {
+    let (from, mut to) = (vec![1u8; bytes], vec![0u8; bytes]);
+    side(move || {
+        to.copy_from_slice(black_box(&from));
+        black_box(&mut to);
     })
+}
+
+/// One plan, then plans in turn, so that no branch is foreseen from the call before.
+/// The original panics on a refused plan.
+fn plan_checks() -> [Row; 3] {
+    let row = |name, plans: Vec<Record>| {
+        let decoded: Vec<Plan> = plans.iter().map(|plan| decoded(plan)).collect();
+        let builders: Vec<_> = decoded.iter().map(Plan::builder).collect();
+        let is_accepted = decoded.iter().all(|plan| plan.check() == 0);
+        let bytes = plans.clone();
+        Row {
+            name,
+            ours: in_turn(plans, |plan| ffi::plan_check(plan)),
+            in_place: is_accepted.then(|| in_turn(builders, |builder| builder.check())),
+            on_bytes: match is_accepted {
+                true => in_turn(bytes, |plan| self::decoded(plan).builder().check()),
+                false => in_turn(bytes, |plan| plan::check(plan)),
+            },
+            lent: LENGTH,
+        }
+    };
+    [
+        row("plan check, the default plan", vec![DEFAULT]),
+        row("plan check, 1000 accepted plans", plans(true)),
+        row("plan check, 1000 refused plans", plans(false)),
+    ]
+}
+
+/// Goes through some inputs again and again.
+fn in_turn<P: 'static, T>(inputs: Vec<P>, call: impl Fn(&P) -> T + 'static) -> Side {
+    let mut next = 0;
+    side(move || {
+        let input = &inputs[next];
+        next = (next + 1) % inputs.len();
+        call(black_box(input))
+    })
+}
+
+/// Plans whose bytes are codes, and that are accepted or not.
+fn plans(accepted: bool) -> Vec<Record> {
+    let mut random = Random::new(0xBE7C);
+    let mut draw = move || match random.once_in(2) {
+        true => likely(&mut random),
+        false => coded(&mut random),
+    };
+    let is_wanted = |plan: &Record| (plan::check(plan) == 0) == accepted;
+    std::iter::from_fn(move || Some(draw()))
+        .filter(is_wanted)
+        .take(1000)
+        .collect()
+}
+
+/// # Panics
+///
+/// Panics on a byte that is no code.
+pub fn decoded(plan: &[u8]) -> Plan {
+    plan::decode(plan).expect("a plan of codes")
+}
+
+/// # Panics
+///
+/// Panics on a byte that is out of range.
+pub fn decoded_head(buffer: &[u8]) -> Head {
+    head::decode(buffer).expect("a head of codes")
+}
+
+fn readings() -> [Row; 4] {
+    let clocks = |name, tasks| {
+        let ours = |head: &Buffer| {
+            let mut clocks = [0; 15];
+            ffi::read_clocks(head, &mut clocks, 0);
+            clocks
+        };
+        reading(name, tasks, ours, readings::clocks_in_place)
+    };
+    let lpsys = |name, tasks| {
+        let ours = |head: &Buffer| {
+            let mut lpsys = [0; 6];
+            ffi::read_lpsys(head, &mut lpsys, 0);
+            lpsys
+        };
+        reading(name, tasks, ours, readings::lpsys_in_place)
+    };
+    [
+        clocks("read_clocks, no tasks", 0),
+        clocks("read_clocks, 16 tasks", MOST_TASKS),
+        lpsys("read_lpsys, no tasks", 0),
+        lpsys("read_lpsys, 16 tasks", MOST_TASKS),
+    ]
+}
+
+/// A reading of a head with so many tasks, which stays as it is.
+fn reading<F: 'static, T: 'static>(
+    name: &'static str,
+    tasks: usize,
+    ours: fn(&Buffer) -> F,
+    original: fn() -> T,
+) -> Row {
+    let bytes = buffer(&with_tasks(busy(), tasks), 0);
+    let head = decoded_head(&bytes);
+    let mut reads = side(original);
+    Row {
+        name,
+        ours: side(move || ours(black_box(&bytes))),
+        in_place: Some(Box::new(move || {
+            world::restart(&head, &[]);
+            reads();
+        })),
+        on_bytes: side(move || {
+            world::restart(&decoded_head(black_box(&bytes)), &[]);
+            original()
+        }),
+        lent: BUFFER + size_of::<F>(),
+    }
 }

@@ -1,6 +1,6 @@
 //! Heads, plans and answers for the guarded change.
 
-use crate::config_inputs::{self, refused_plans};
+use crate::config_plans::{self, refused_plans};
 use crate::heads::{DIVIDERS, likely, plain};
 use crate::plans::{Record, default_with, put_dll};
 use sifli::call::MOST_ANSWERS;
@@ -272,7 +272,7 @@ pub fn any_plan(random: &mut Random, accepted: &[Record]) -> Vec<u8> {
             plans[random.below(plans.len())].clone()
         }
         1..5 => random.pick(&targets()).to_vec(),
-        _ => config_inputs::plan(random, accepted),
+        _ => config_plans::plan(random, accepted),
     }
 }
 
@@ -291,9 +291,7 @@ pub fn answers(random: &mut Random) -> Vec<u16> {
     let mut answers = match random.below(8) {
         0 => Vec::new(),
         1 => vec![0; length],
-        2 => (0..length)
-            .map(|_| random.word() as u16 >> random.below(16))
-            .collect(),
+        2 => (0..length).map(|_| random.any_length()).collect(),
         3 => {
             let mut answers = vec![0; length];
             answers.push(random.pick(&READY));
@@ -310,13 +308,4 @@ pub fn answers(random: &mut Random) -> Vec<u16> {
         answers[place] = 1;
     }
     answers
-}
-
-/// Most often the fewest words, now and then too few or many.
-pub fn journal(random: &mut Random) -> usize {
-    match random.below(64) {
-        0 => random.below(128),
-        1 => 128 + random.below(1000),
-        _ => random.pick(&[128, 129, 200]),
-    }
 }

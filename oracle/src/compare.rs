@@ -1,57 +1,86 @@
 //! `oracle compare`: librikkovan.a against the original code, and its tasks and
 //! guarded change against document 01.
 
+use crate::groups::{Report, counts, print_tables};
 use crate::tally::Tally;
-use crate::{compare_head, compare_plan};
-
-#[cfg(feature = "change")]
-use crate::compare_change;
-#[cfg(feature = "config")]
-use crate::compare_config;
-#[cfg(feature = "lpsys-request")]
-use crate::compare_lpsys;
-#[cfg(feature = "tasks")]
-use crate::compare_tasks;
+use crate::{
+    compare_booking, compare_change, compare_config, compare_head, compare_lists, compare_load,
+    compare_lpsys, compare_plan,
+};
+use sifli::random::Random;
 
 /// What is compared, by the names that `--only` takes.
 pub const PARTS: [&str; 6] = ["plan", "heads", "lpsys", "config", "tasks", "change"];
 
 /// How much is compared.
-#[derive(Clone, Copy, Default)]
+#[derive(Clone, Copy)]
 pub struct Extent {
     /// A bounded part.
     pub quick: bool,
-    /// Random plans, random heads, random calls of LPSYS, those of
-    /// `clock_config.rs`, those of tasks and those of the guarded change each go
-    /// on for so many seconds at least.
+    /// The queries of each random group; by itself each has its own number.
+    pub count: Option<u64>,
+    /// Each random group goes on for so many seconds at least.
     pub seconds: u64,
+    /// What all random groups are drawn from.
+    pub seed: u64,
+    /// Only the tables are printed, and what differs.
+    pub is_table: bool,
+}
+
+impl Default for Extent {
+    fn default() -> Self {
+        Self {
+            quick: false,
+            count: None,
+            seconds: 0,
+            seed: 0x5EED,
+            is_table: false,
+        }
+    }
+}
+
+impl Extent {
+    /// Random numbers of a group, which its name tells from those of others.
+    pub fn random(&self, group: &str) -> Random {
+        let mixed = group.bytes().fold(self.seed, |sum, byte| {
+            (sum ^ u64::from(byte)).wrapping_mul(0x0100_0000_01B3)
+        });
+        Random::new(mixed)
+    }
 }
 
 /// Compares the groups of the named parts, of all where none is named, and gives
 /// the number of differences.
 pub fn run(extent: Extent, only: &[&str]) -> u64 {
-    let mut total = Tally::default();
+    println!("seed {}", extent.seed);
+    let mut reports = Vec::new();
     for part in PARTS {
         if only.is_empty() || only.contains(&part) {
-            total.add(&part_of(part, extent));
+            reports.extend(part_of(part, extent));
         }
     }
-    total.print("total");
+    print_tables(&reports);
+    let mut total = Tally::new(String::new());
+    for report in &reports {
+        total.add(&report.systematic);
+        total.add(&report.random);
+        total.different += report.missing.len() as u64;
+    }
+    println!("\ntotal: {}", counts(&total));
     total.different
 }
 
-fn part_of(part: &str, extent: Extent) -> Tally {
+fn part_of(part: &str, extent: Extent) -> Vec<Report> {
     match part {
-        "plan" => compare_plan::run(extent),
-        "heads" => compare_head::run(extent),
-        #[cfg(feature = "lpsys-request")]
+        "plan" => vec![compare_plan::run(extent)],
+        "heads" => vec![compare_head::run(extent)],
         "lpsys" => compare_lpsys::run(extent),
-        #[cfg(feature = "config")]
         "config" => compare_config::run(extent),
-        #[cfg(feature = "tasks")]
-        "tasks" => compare_tasks::run(extent),
-        #[cfg(feature = "change")]
-        "change" => compare_change::run(extent),
-        _ => Tally::default(),
+        "tasks" => vec![
+            compare_load::run(extent),
+            compare_booking::book(extent),
+            compare_booking::release(extent),
+        ],
+        _ => vec![compare_change::run(extent), compare_lists::run(extent)],
     }
 }

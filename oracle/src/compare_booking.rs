@@ -1,28 +1,28 @@
 //! Groups of booking and release.
 
 use crate::compare::Extent;
-use crate::compare_tasks::{compare, random_calls};
+use crate::compare_booking_refused;
+use crate::groups::{Groups, Number, Report};
 use crate::heads::{
-    Buffer, DIVIDERS, LONGEST, buffer, busy, damaged, dlls, garbage, plain, put_flags, put_length,
-    put_register, task, with, with_tasks,
+    Buffer, DIVIDERS, buffer, busy, damaged_or_any, dlls, plain, put_flags, put_register, task,
+    with, with_tasks,
 };
 use crate::plans::STAGES;
-use crate::tally::{Groups, Tally};
-use crate::task_calls::{BOOK, Call, Input, RELEASE};
+use crate::tally::Tally;
 use crate::task_inputs::{
-    all_cycles, all_periods, any_past, cores, near_limit, near_limits, random_head, random_id,
-    random_task, with_light_tasks,
+    Order, all_cycles, all_periods, any_past, cores, near_limit, near_limits, random_head,
+    random_id, random_task, with_light_tasks,
 };
-use sifli::head::{BUFFER, Head, LONGEST_PERIOD, MOST_TASKS, TASK, Task, at, decode};
+use sifli::head::{Head, LONGEST_PERIOD, MOST_TASKS, TASK, Task, at, decode};
+use sifli::query::{Id, call};
 use sifli::random::Random;
 
-const DAMAGED: u64 = 300_000;
-const DAMAGED_QUICK: u64 = 40_000;
-const LISTS: u64 = 20_000;
-const LISTS_QUICK: u64 = 2_000;
+const RANDOM: Number = Number::new(1_500_000, 300_000);
+const DAMAGED: Number = Number::new(600_000, 80_000);
+const LISTS: Number = Number::new(400_000, 40_000);
 
-/// The calls of one list.
-const CALLS: usize = 40;
+/// The bookings and releases of one list.
+const ORDERS: usize = 40;
 
 /// An id that no head of the systematic groups has.
 const NEW: u8 = 200;
@@ -41,9 +41,9 @@ const HEAVY: Task = Task {
     period_us: 1,
 };
 
-pub fn book(extent: Extent) -> Tally {
+pub fn book(extent: Extent) -> Report {
     let quick = extent.quick;
-    let mut groups = Groups::ruled("book");
+    let mut groups = Groups::ruled("book", extent);
     groups.group("core clocks", |tally| core_clocks(tally, quick));
     groups.group("loads near HCLK", loads_near_hclk);
     groups.group("shares that round up", shares_that_round_up);
@@ -51,59 +51,51 @@ pub fn book(extent: Extent) -> Tally {
     groups.group("ids", |tally| {
         let bookings = [LIGHT, HEAVY];
         every_id(tally, |id| {
-            bookings.map(|task| Call::Book(Task { id, ..task }))
+            bookings.map(|task| Order::Book(Task { id, ..task }))
         });
     });
     let few = [
-        Call::Book(LIGHT),
-        Call::Book(HEAVY),
-        Call::Book(Task { id: 1, ..LIGHT }),
-        Call::Book(Task { id: 0, ..LIGHT }),
+        LIGHT,
+        HEAVY,
+        Task { id: 1, ..LIGHT },
+        Task { id: 0, ..LIGHT },
     ];
-    groups.group("one byte changed", |tally| {
-        one_byte_changed(tally, &few[..1], quick)
-    });
-    damaged_buffers(&mut groups, &few);
-    groups.group("damaged heads", |tally| {
-        damaged_heads(tally, quick, |random, head| {
-            Call::Book(random_task(random, head))
-        })
-    });
-    groups.group("lists of calls", |tally| {
-        lists(tally, quick, |call| matches!(call, Call::Book(_)))
-    });
-    groups.group("random heads", |tally| {
-        random_heads(tally, extent, 0xB00C, |random, head| {
-            Call::Book(random_task(random, head))
-        })
-    });
-    groups.finish(&BOOK)
+    compare_booking_refused::run(&mut groups, &few.map(Order::Book), quick);
+    let draw = |random: &mut Random, head: &Head| Order::Book(random_task(random, head));
+    random_groups(&mut groups, draw);
+    groups.finish(call(Id::Book).refusals)
 }
 
-pub fn release(extent: Extent) -> Tally {
-    let quick = extent.quick;
-    let mut groups = Groups::ruled("release");
-    groups.group("ids", |tally| every_id(tally, |id| [Call::Release(id)]));
+pub fn release(extent: Extent) -> Report {
+    let mut groups = Groups::ruled("release", extent);
+    groups.group("ids", |tally| every_id(tally, |id| [Order::Release(id)]));
     groups.group("places", places);
-    let few = [1, 2, 16, 0].map(Call::Release);
-    groups.group("one byte changed", |tally| {
-        one_byte_changed(tally, &few[..1], quick)
+    let few = [1, 2, 16, 0].map(Order::Release);
+    compare_booking_refused::run(&mut groups, &few, extent.quick);
+    let draw = |random: &mut Random, head: &Head| Order::Release(random_id(random, head));
+    random_groups(&mut groups, draw);
+    groups.finish(call(Id::Release).refusals)
+}
+
+pub fn compare(tally: &mut Tally, order: Order, bytes: &[u8]) {
+    tally.compare(&order.on(bytes));
+}
+
+/// The random groups of one sort of order.
+fn random_groups(groups: &mut Groups, draw: impl Fn(&mut Random, &Head) -> Order) {
+    groups.random("damaged heads", DAMAGED, |tally, random| {
+        let bytes = damaged_or_any(random);
+        let head = decode(&bytes).unwrap_or_default();
+        compare(tally, draw(random, &head), &bytes);
     });
-    damaged_buffers(&mut groups, &few);
-    groups.group("damaged heads", |tally| {
-        damaged_heads(tally, quick, |random, head| {
-            Call::Release(random_id(random, head))
-        })
+    groups.random("lists of calls", LISTS, |tally, random| {
+        list(tally, random, &draw)
     });
-    groups.group("lists of calls", |tally| {
-        lists(tally, quick, |call| matches!(call, Call::Release(_)))
+    groups.random("random heads", RANDOM, |tally, random| {
+        let head = random_head(random);
+        let buffer = any_past(random, &head);
+        compare(tally, draw(random, &head), &buffer);
     });
-    groups.group("random heads", |tally| {
-        random_heads(tally, extent, 0x4E1E, |random, head| {
-            Call::Release(random_id(random, head))
-        })
-    });
-    groups.finish(&RELEASE)
 }
 
 /// Core select, DLL1, ready flags and some hdivs, in the full run with all flags
@@ -134,9 +126,9 @@ fn core_clocks(tally: &mut Tally, quick: bool) {
 fn fit_or_not(tally: &mut Tally, buffer: &Buffer, periods: &[u32]) {
     let head = decode(buffer).expect("a head");
     for task in near_limit(&head, NEW, periods) {
-        compare(tally, Call::Book(task), buffer);
+        compare(tally, Order::Book(task), buffer);
     }
-    compare(tally, Call::Book(LIGHT), buffer);
+    compare(tally, Order::Book(LIGHT), buffer);
 }
 
 /// Every mode with every count of tasks: what is left is reached or passed with
@@ -146,7 +138,7 @@ fn loads_near_hclk(tally: &mut Tally) {
         for count in 0..=MOST_TASKS {
             let mut head = with_light_tasks(core.clone(), count);
             for task in near_limits(&head, NEW) {
-                compare(tally, Call::Book(task), &buffer(&head, 0xEE));
+                compare(tally, Order::Book(task), &buffer(&head, 0xEE));
             }
             let Some(last) = head.tasks.pop() else {
                 continue;
@@ -155,7 +147,7 @@ fn loads_near_hclk(tally: &mut Tally) {
                 let mut head = head.clone();
                 head.tasks.push(task);
                 for booking in [LIGHT, HEAVY] {
-                    compare(tally, Call::Book(booking), &buffer(&head, 0));
+                    compare(tally, Order::Book(booking), &buffer(&head, 0));
                 }
             }
         }
@@ -185,8 +177,8 @@ fn shares_that_round_up(tally: &mut Tally) {
                     10 * rest + 1,
                     10 * rest + 10,
                 ] {
-                    let call = Call::Book(task(count, cycles));
-                    compare(tally, call, &buffer(&head, 0));
+                    let order = Order::Book(task(count, cycles));
+                    compare(tally, order, &buffer(&head, 0));
                 }
             }
         }
@@ -205,7 +197,7 @@ fn arguments(tally: &mut Tally) {
                     cycles,
                     period_us,
                 };
-                compare(tally, Call::Book(task), &buffer);
+                compare(tally, Order::Book(task), &buffer);
             }
         }
     }
@@ -213,7 +205,7 @@ fn arguments(tally: &mut Tally) {
 
 /// Every id on heads with every count of tasks, whose ids are 1 on, 255 down,
 /// and far apart; on 48 MHz, and where HCLK does not read.
-fn every_id<const N: usize>(tally: &mut Tally, calls: impl Fn(u8) -> [Call; N]) {
+fn every_id<const N: usize>(tally: &mut Tally, orders: impl Fn(u8) -> [Order; N]) {
     let id = [
         |place: u8| 1 + place,
         |place: u8| 255 - place,
@@ -228,8 +220,8 @@ fn every_id<const N: usize>(tally: &mut Tally, calls: impl Fn(u8) -> [Call; N]) 
                     task.id = id(place);
                 }
                 for id in 0..=255 {
-                    for call in calls(id) {
-                        compare(tally, call, &buffer(&head, id ^ 0x5A));
+                    for order in orders(id) {
+                        compare(tally, order, &buffer(&head, id ^ 0x5A));
                     }
                 }
             }
@@ -250,158 +242,25 @@ fn places(tally: &mut Tally) {
                 buffer[at + 6..at + TASK].fill_with(|| 1 + random.up_to(127));
             }
             for id in 0..=MOST_TASKS as u8 + 1 {
-                compare(tally, Call::Release(id), &buffer);
+                compare(tally, Order::Release(id), &buffer);
             }
         }
     }
 }
 
-/// Every byte of the buffer at every value, on heads with 1 and 15 tasks, in the
-/// full run with 0, 7 and 16 too.
-fn one_byte_changed(tally: &mut Tally, calls: &[Call], quick: bool) {
-    let counts = [1, MOST_TASKS - 1, 7, 0, MOST_TASKS];
-    let counts = if quick { &counts[..2] } else { &counts };
-    for &count in counts {
-        let good = buffer(&with_light_tasks(busy(), count), 0);
-        for index in 0..BUFFER {
-            for byte in 0..=255 {
-                for &call in calls {
-                    compare(tally, call, &with(good, &[(index, byte)]));
-                }
-            }
-        }
+/// Orders of one sort on the buffers that bookings and releases leave one after the
+/// other.
+fn list(tally: &mut Tally, random: &mut Random, draw: impl Fn(&mut Random, &Head) -> Order) {
+    let head = random_head(random);
+    let mut bytes = any_past(random, &head).to_vec();
+    let releases = random.pick(&[2, 3, 6]);
+    for _ in 0..ORDERS {
+        let head = decode(&bytes).expect("a head");
+        let other = match random.once_in(releases) {
+            true => Order::Release(random_id(random, &head)),
+            false => Order::Book(random_task(random, &head)),
+        };
+        compare(tally, draw(random, &head), &bytes);
+        bytes = other.on(&bytes).wanted().bytes().to_vec();
     }
-}
-
-/// The groups of buffers that are refused, and their neighbours that are not.
-fn damaged_buffers(groups: &mut Groups, calls: &[Call]) {
-    groups.group("buffer lengths 0 to 300", |tally| lengths(tally, calls));
-    groups.group("task counts and length fields", |tally| {
-        counts_and_lengths(tally, calls)
-    });
-    groups.group("order of refusals", |tally| refusals(tally, calls));
-}
-
-/// Buffers of every length: heads cut short or with zeros after them, zeros and
-/// 255s; and lengths that are 255 in their low 8 or 16 bits.
-fn lengths(tally: &mut Tally, calls: &[Call]) {
-    for &call in calls {
-        for length in (0..=LONGEST).chain([511, 767, 65_535, 65_536 + BUFFER]) {
-            compare(tally, call, &vec![0; length]);
-            compare(tally, call, &vec![255; length]);
-            for count in [0, 1, 2, MOST_TASKS - 1, MOST_TASKS] {
-                let mut bytes = buffer(&with_light_tasks(busy(), count), 0).to_vec();
-                bytes.resize(length, 0);
-                compare(tally, call, &bytes);
-            }
-        }
-    }
-}
-
-/// Every count, with the length field that fits it and with others, and with
-/// versions 1 and 2. Tasks stand at all 16 places.
-fn counts_and_lengths(tally: &mut Tally, calls: &[Call]) {
-    let mut buffer = buffer(&with_light_tasks(busy(), MOST_TASKS), 0);
-    for count in 0..=255u8 {
-        buffer[at::COUNT] = count;
-        let fitting = 109 + TASK as u16 * u16::from(count);
-        let around = [fitting, fitting - 1, fitting + 1, fitting - 9, fitting + 9];
-        for length in around.into_iter().chain([0, 109, 253, fitting ^ 256]) {
-            put_length(&mut buffer, length);
-            for version in [2, 1] {
-                buffer[at::VERSION] = version;
-                for &call in calls {
-                    compare(tally, call, &buffer);
-                }
-            }
-        }
-    }
-}
-
-/// Every choice among ten faults, two of them of tasks and two that only a
-/// booking minds, on buffers of 254, 255 and 256 bytes.
-fn refusals(tally: &mut Tally, calls: &[Call]) {
-    const FAULTS: [&[(usize, u8)]; 10] = [
-        &[(0, 1)],
-        &[(at::VERSION, 2)],
-        &[(at::a(34), 1)],
-        &[(at::FLAGS + 2, 2)],
-        &[(task(0) + 1, 0), (task(0) + 3, 0), (task(0) + 4, 0)],
-        &[(task(1), 3)],
-        &[(task(2) + 5, 1)],
-        // HCLK does not read; it carries nothing more; a count of 16.
-        &[(at::c(1), 2)],
-        &[(task(2) + 1, 255), (task(2) + 6, 0)],
-        &[(at::COUNT, 16), (1, 253)],
-    ];
-    let mut good = buffer(&with_light_tasks(busy(), MOST_TASKS), 0);
-    good[at::COUNT] = 3;
-    put_length(&mut good, 109 + 27);
-    for choice in 0..1 << FAULTS.len() {
-        let mut bytes = good;
-        for (bit, fault) in FAULTS.into_iter().enumerate() {
-            if choice >> bit & 1 == 1 {
-                bytes = with(bytes, fault);
-            }
-        }
-        for &call in calls {
-            compare(tally, call, &bytes);
-            compare(tally, call, &bytes[..BUFFER - 1]);
-            compare(tally, call, &[&bytes[..], &[0]].concat());
-        }
-    }
-}
-
-/// Random heads with one to three bytes replaced, and any bytes.
-fn damaged_heads(tally: &mut Tally, quick: bool, call: impl Fn(&mut Random, &Head) -> Call) {
-    let mut random = Random::new(0xDA3E);
-    let number = if quick { DAMAGED_QUICK } else { DAMAGED };
-    for _ in 0..number {
-        for bytes in [damaged(&mut random).to_vec(), garbage(&mut random)] {
-            let head = decode(&bytes).unwrap_or_default();
-            compare(tally, call(&mut random, &head), &bytes);
-        }
-    }
-}
-
-/// Lists of bookings and releases, each call on the buffer that the one before
-/// left. Of either sort, those are compared that are asked for.
-fn lists(tally: &mut Tally, quick: bool, compared: impl Fn(&Call) -> bool) {
-    let mut random = Random::new(0x1157);
-    let number = if quick { LISTS_QUICK } else { LISTS };
-    for _ in 0..number {
-        let head = random_head(&mut random);
-        let mut bytes = any_past(&mut random, &head).to_vec();
-        let releases = random.pick(&[2, 3, 6]);
-        for _ in 0..CALLS {
-            let head = decode(&bytes).expect("a head");
-            let call = match random.once_in(releases) {
-                true => Call::Release(random_id(&mut random, &head)),
-                false => Call::Book(random_task(&mut random, &head)),
-            };
-            if compared(&call) {
-                compare(tally, call, &bytes);
-            }
-            let input = Input {
-                call,
-                bytes: &bytes,
-            };
-            let left = input.ruled();
-            bytes = left.bytes().to_vec();
-        }
-    }
-}
-
-fn random_heads(
-    tally: &mut Tally,
-    extent: Extent,
-    seed: u64,
-    call: impl Fn(&mut Random, &Head) -> Call,
-) {
-    let mut random = Random::new(seed);
-    random_calls(tally, extent, |tally| {
-        let head = random_head(&mut random);
-        let buffer = any_past(&mut random, &head);
-        compare(tally, call(&mut random, &head), &buffer);
-    });
 }

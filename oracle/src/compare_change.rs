@@ -1,44 +1,38 @@
 //! The guarded change of librikkovan.a against document 01, with demand 3 asked
 //! of every moment.
 
-use crate::change_calls::{Input, JOURNAL};
 use crate::change_inputs::{
-    CORES, LISTS, READY, answers, any_plan, few_fit, head, journal, plan, put_core, put_rails,
-    put_tasks, rails, target, targets, with_core, with_load,
+    CORES, LISTS, READY, answers, any_plan, few_fit, head, plan, put_core, put_rails, put_tasks,
+    rails, target, targets, with_core, with_load,
 };
 use crate::compare::Extent;
-use crate::compare_lists;
-use crate::config_inputs::{accepted, few_plans, refused_plans};
+use crate::compare_change_refused;
+use crate::config_plans::accepted;
+use crate::groups::{Groups, Number, Report};
 use crate::heads::{
-    Buffer, DIVIDERS, LONGEST, buffer, damaged, dlls, few_heads, garbage, put_flags, put_register,
-    with,
+    Buffer, DIVIDERS, buffer, damaged_or_any, dlls, journal, put_flags, put_register,
 };
-use crate::plans::{self, Record, STAGES, of_length};
-use crate::tally::{Groups, Tally};
+use crate::ours::ours;
+use crate::plans::{self, STAGES};
+use crate::tally::Tally;
 use crate::task_inputs::any_past;
 use sifli::call::MOST_ANSWERS;
-use sifli::change::ANSWERS;
-use sifli::claim::planned;
-use sifli::head::{BUFFER, Head, MOST_TASKS, at};
-use sifli::plan::{DEFAULT, LENGTH};
+use sifli::claim::{self, Broken, Seen, planned};
+use sifli::head::{MOST_TASKS, at, decode};
+use sifli::lent::Left;
+use sifli::plan::DEFAULT;
+use sifli::query::{Id, JOURNAL, Query, call};
 use sifli::random::Random;
-use std::time::{Duration, Instant};
 
-const RANDOM: u64 = 1_000_000;
-const RANDOM_QUICK: u64 = 400_000;
-const DAMAGED: u64 = 200_000;
-const DAMAGED_QUICK: u64 = 20_000;
+const RANDOM: Number = Number::new(1_000_000, 400_000);
+const DAMAGED: Number = Number::new(200_000, 20_000);
 
 /// Plans from which those of random calls are drawn.
 pub const ACCEPTED: usize = 4000;
 
-/// Random changes and lists of calls share the seconds of a longer run.
-pub const SHARES: u32 = 2;
-
-/// Compares all groups, then the lists of calls, and gives their sum.
-pub fn run(extent: Extent) -> Tally {
+pub fn run(extent: Extent) -> Report {
     let quick = extent.quick;
-    let mut groups = Groups::ruled("change");
+    let mut groups = Groups::ruled("change", extent);
     groups.group("modes and rails", |tally| modes_and_rails(tally, quick));
     groups.group("every rail", |tally| every_rail(tally, quick));
     groups.group("flash selects", |tally| flash_selects(tally, quick));
@@ -49,27 +43,60 @@ pub fn run(extent: Extent) -> Tally {
         flags_and_lpsys(tally, quick)
     });
     groups.group("loads", |tally| loads(tally, quick));
-    groups.group("plan bytes", |tally| plan_bytes(tally, quick));
-    groups.group("plan lengths 0 to 40", plan_lengths);
-    groups.group("order of refusals", order_of_refusals);
-    groups.group("lengths", lengths);
-    groups.group("one byte changed", |tally| one_byte_changed(tally, quick));
-    groups.group("damaged heads", |tally| damaged_heads(tally, quick));
-    groups.group("random changes", |tally| random_changes(tally, extent));
-    let mut sum = groups.finish(&ANSWERS);
-    sum.add(&compare_lists::run(extent));
-    sum
+    compare_change_refused::run(&mut groups, quick);
+    let accepted = accepted(&mut extent.random("accepted plans"), ACCEPTED);
+    groups.random("damaged heads", DAMAGED, |tally, random| {
+        let head = damaged_head(random);
+        let plan = any_plan(random, &accepted);
+        random_change(tally, random, &head, &plan);
+    });
+    groups.random("random changes", RANDOM, |tally, random| {
+        let mut head = head(random);
+        let plan = any_plan(random, &accepted);
+        put_tasks(random, &mut head, target(&plan));
+        let bytes = any_past(random, &head);
+        random_change(tally, random, &bytes, &plan);
+    });
+    groups.finish(call(Id::Change).refusals)
 }
 
-/// A change with a journal of 128 words.
-fn on(tally: &mut Tally, head: &[u8], plan: &[u8], answers: &[u16]) {
-    let input = Input {
-        plan,
-        head,
-        journal: JOURNAL,
-        answers,
+/// A change, and demand 3 of what it left.
+fn compare(tally: &mut Tally, query: &Query) {
+    let (left, _) = tally.compare(query);
+    let moments = left.entries().len() + 1;
+    let asked = |query: &Query| holds(query, &ours(query));
+    tally.claim(query, moments, holds(query, &left), asked);
+}
+
+/// Demand 3 of what a change left; nothing where the buffer is no head.
+pub fn holds(query: &Query, left: &Left) -> Result<(), Broken> {
+    let Ok(before) = decode(query.bytes) else {
+        return Ok(());
     };
-    input.compare(tally);
+    let after = decode(left.bytes()).map_err(|_| "the buffer is no head".to_string())?;
+    let seen = Seen {
+        before: &before,
+        answer: left.refusal(),
+        entries: left.entries(),
+        taken: left.taken() as usize,
+        after: &after,
+    };
+    claim::of_change(&seen, query.plan, query.answers)
+}
+
+/// A change with a journal of the usual length.
+pub fn on(tally: &mut Tally, head: &[u8], plan: &[u8], answers: &[u16]) {
+    with_journal(tally, head, plan, answers, JOURNAL);
+}
+
+pub fn with_journal(tally: &mut Tally, head: &[u8], plan: &[u8], answers: &[u16], journal: usize) {
+    let query = Query {
+        plan,
+        journal,
+        answers,
+        ..Query::on(call(Id::Change), head)
+    };
+    compare(tally, &query);
 }
 
 /// Every present HCLK on every rails with every target, and so every pair of
@@ -266,184 +293,20 @@ fn loads(tally: &mut Tally, quick: bool) {
     }
 }
 
-/// Some plans with each byte at all values; quick on one head.
-fn plan_bytes(tally: &mut Tally, quick: bool) {
-    let mut heads: Vec<Buffer> = few_fit().iter().map(|head| buffer(head, 0)).collect();
-    heads.truncate(if quick { 1 } else { 4 });
-    for good in few_plans() {
-        for index in 0..LENGTH {
-            for byte in 0..=255 {
-                let mut plan = good;
-                plan[index] = byte;
-                for head in &heads {
-                    on(tally, head, &plan, &[1]);
-                }
-            }
-        }
+/// A damaged head, any bytes, or a head that may be fit with a register replaced.
+fn damaged_head(random: &mut Random) -> Vec<u8> {
+    if !random.once_in(3) {
+        return damaged_or_any(random);
     }
+    let head = head(random);
+    let mut buffer = any_past(random, &head);
+    let number = 1 + random.below(34);
+    put_register(&mut buffer, number, [(); 3].map(|()| random.up_to(3)));
+    buffer.to_vec()
 }
 
-/// Plans of every length, on a head that is fit and on one that is not.
-fn plan_lengths(tally: &mut Tally) {
-    let heads = [with_core(CORES[6]), Head::default()];
-    for length in 0..=plans::LONGEST {
-        for plan in of_length(length) {
-            for head in &heads {
-                on(tally, &buffer(head, 0), &plan, &[1]);
-            }
-        }
-    }
-}
-
-/// Every choice among a short journal, too many answers, three faults of the
-/// head's record, four ways not to be fit, an oscillator that is not ready, a
-/// load that is too high and no answer that is ready, each with a plan of every
-/// refusal and with one that is accepted.
-fn order_of_refusals(tally: &mut Tally) {
-    let mut plans: Vec<Vec<u8>> = vec![DEFAULT.to_vec(), plan((0, 1, [0; 3])).to_vec()];
-    plans.extend(refused_plans());
-    // On DLL1, so that 37 and 38 stand apart; LPSYS on HRC48.
-    let mut good = with_core(CORES[17]);
-    good.registers[11] = 0x000101;
-    for faults in 0..1 << 12 {
-        let has = |fault: u32| faults >> fault & 1 == 1;
-        let mut head = good.clone();
-        if has(5) {
-            head.registers[14] = 12;
-        }
-        if has(6) {
-            head.registers[5] = 0x000200;
-        }
-        if has(7) {
-            head.registers[26] = 0x010000;
-        }
-        head.hrc48_ready = !has(8);
-        head.hxt48_ready = !has(9);
-        if has(10) {
-            head = with_load(head, 3, 240_000_001, false);
-        }
-        let mut bytes = buffer(&head, 0).to_vec();
-        if has(3) {
-            bytes[at::VERSION] = 0;
-        }
-        if has(4) {
-            bytes[at::a(34)] = 1;
-        }
-        if has(2) {
-            bytes.push(0);
-        }
-        let length = if has(1) { MOST_ANSWERS + 1 } else { 2 };
-        let answers = vec![u16::from(!has(11)); length];
-        let journal = if has(0) { JOURNAL - 1 } else { JOURNAL };
-        for plan in &plans {
-            let input = Input {
-                plan,
-                head: &bytes,
-                journal,
-                answers: &answers,
-            };
-            input.compare(tally);
-        }
-    }
-}
-
-/// Journals, answers, buffers and plans of lengths around their limits, and past
-/// 16 bits.
-fn lengths(tally: &mut Tally) {
-    let mut bytes = buffer(&with_core(CORES[6]), 0).to_vec();
-    bytes.resize(LONGEST, 0);
-    let mut slice = DEFAULT.to_vec();
-    slice.push(0);
-    for journal in [0, 1, 20, 64, 127, 128, 129, 200, 256, 65_536, 65_600] {
-        for answers in [0, 2, MOST_ANSWERS, MOST_ANSWERS + 1, 65_536, 65_538] {
-            let answers = vec![1; answers];
-            for head in [0, 110, 254, BUFFER, 256].map(|length| &bytes[..length]) {
-                for plan in [0, 19, LENGTH, 21].map(|length| &slice[..length]) {
-                    let input = Input {
-                        plan,
-                        head,
-                        journal,
-                        answers: &answers,
-                    };
-                    input.compare(tally);
-                }
-            }
-        }
-    }
-}
-
-/// Every byte of some heads at every value; quick of one.
-fn one_byte_changed(tally: &mut Tally, quick: bool) {
-    let with_tasks = |head: Head| with_load(head, 5, 20_000_000, false);
-    let mut heads: Vec<Buffer> = few_fit()
-        .into_iter()
-        .rev()
-        .map(|head| buffer(&with_tasks(head), 0))
-        .collect();
-    heads.extend(few_heads());
-    heads.truncate(if quick { 1 } else { 7 });
-    for good in &heads {
-        for index in 0..BUFFER {
-            for byte in 0..=255 {
-                on(tally, &with(*good, &[(index, byte)]), &DEFAULT, &[0, 1]);
-            }
-        }
-    }
-}
-
-/// Random heads with one to three bytes replaced, fit ones too, and any bytes.
-fn damaged_heads(tally: &mut Tally, quick: bool) {
-    let mut random = Random::new(0xDA3D);
-    let accepted = accepted(&mut random, ACCEPTED);
-    let number = if quick { DAMAGED_QUICK } else { DAMAGED };
-    for turn in 0..number {
-        let bytes = match turn % 3 {
-            0 => damaged(&mut random).to_vec(),
-            1 => garbage(&mut random),
-            _ => {
-                let head = head(&mut random);
-                let mut buffer = any_past(&mut random, &head);
-                let number = 1 + random.below(34);
-                put_register(&mut buffer, number, [(); 3].map(|()| random.up_to(3)));
-                buffer.to_vec()
-            }
-        };
-        random_change(tally, &mut random, &bytes, &accepted);
-    }
-}
-
-/// Random heads; in a longer run for their share of the seconds.
-fn random_changes(tally: &mut Tally, extent: Extent) {
-    let mut random = Random::new(0xC4A6);
-    let accepted = accepted(&mut random, ACCEPTED);
-    let number = if extent.quick { RANDOM_QUICK } else { RANDOM };
-    let least = Duration::from_secs(extent.seconds) / SHARES;
-    let began = Instant::now();
-    while tally.compared < number || began.elapsed() < least {
-        for _ in 0..1000 {
-            let mut head = head(&mut random);
-            let plan = any_plan(&mut random, &accepted);
-            put_tasks(&mut random, &mut head, target(&plan));
-            let bytes = any_past(&mut random, &head);
-            given(tally, &mut random, &bytes, &plan);
-        }
-    }
-}
-
-/// A random plan, answers and length of the journal.
-fn random_change(tally: &mut Tally, random: &mut Random, head: &[u8], accepted: &[Record]) {
-    let plan = any_plan(random, accepted);
-    given(tally, random, head, &plan);
-}
-
-fn given(tally: &mut Tally, random: &mut Random, head: &[u8], plan: &[u8]) {
+/// Random answers and length of the journal.
+fn random_change(tally: &mut Tally, random: &mut Random, head: &[u8], plan: &[u8]) {
     let journal = journal(random);
-    let answers = answers(random);
-    let input = Input {
-        plan,
-        head,
-        journal,
-        answers: &answers,
-    };
-    input.compare(tally);
+    with_journal(tally, head, plan, &answers(random), journal);
 }

@@ -1,62 +1,45 @@
 //! The calls of `rcc/clock_config.rs` of librikkovan.a against the original's.
 
 use crate::compare::Extent;
-use crate::config::{CALLS, Call, Clocks, Input};
+use crate::compare_config_plans;
 use crate::config_inputs::{
-    DIFFERENCES, FORMER, SEARCH, accepted, answers, around, clocks, few_cores, few_lists,
-    few_plans, first_waits, head, plan, present_clocks, search, searches, targets,
+    DIFFERENCES, SEARCH, answers, around, clocks, few_cores, few_lists, first_waits, head,
+    present_clocks, search, searches,
 };
+use crate::config_plans::{accepted, few_plans, plan, targets};
+use crate::groups::{Groups, Number, Report};
 use crate::heads::{
-    Buffer, DIVIDERS, LONGEST, buffer, busy, damaged, dlls, few_heads, garbage, plain, put_flags,
+    DIVIDERS, LONGEST, buffer, busy, damaged_or_any, dlls, few_heads, journal, plain, put_flags,
     put_register, task, with, with_tasks,
 };
-use crate::plans::{self, Record, STAGES, default_with, of_length, put_dll};
-use crate::tally::{Groups, Tally};
+use crate::plans::{Record, STAGES, default_with};
+use crate::tally::Tally;
 use sifli::call::MOST_ANSWERS;
+use sifli::calls::config;
 use sifli::head::{BUFFER, at};
-use sifli::plan::{DEFAULT, LARGEST, LENGTH, at as field};
+use sifli::plan::{DEFAULT, at as field};
+use sifli::query::{Call, Clocks, Query};
 use sifli::random::Random;
-use std::time::{Duration, Instant};
 
-const RANDOM: u64 = 1_000_000;
-const RANDOM_QUICK: u64 = 400_000;
-const DAMAGED: u64 = 200_000;
-const DAMAGED_QUICK: u64 = 30_000;
+const RANDOM: Number = Number::new(1_000_000, 400_000);
+const DAMAGED: Number = Number::new(400_000, 60_000);
 
 /// Plans from which those of random calls are drawn.
 const ACCEPTED: usize = 4000;
 
-/// The words of the journal where nothing is tested about them.
-const JOURNAL: usize = 128;
-
-/// Answers printed of a differing input.
-const SHOWN_ANSWERS: usize = 100;
-
-/// Compares all groups of all calls and gives their sum.
-pub fn run(extent: Extent) -> Tally {
-    let mut sum = Tally::default();
-    for call in &CALLS {
-        sum.add(&groups(call, extent));
-    }
-    sum
+/// Compares all groups of all calls.
+pub fn run(extent: Extent) -> Vec<Report> {
+    config().iter().map(|call| groups(call, extent)).collect()
 }
 
 /// All groups of a call, those of the plan only where there is one.
-fn groups(call: &'static Call, extent: Extent) -> Tally {
+fn groups(call: &'static Call, extent: Extent) -> Report {
     let quick = extent.quick;
-    let mut groups = Groups::new(call.function);
+    let mut groups = Groups::of_original(call.function, extent);
     groups.group("supply modes", |tally| supply_modes(tally, call, quick));
     groups.group("core clocks", |tally| core_clocks(tally, call, quick));
-    if call.is_lent_plan() {
-        groups.group("plan bytes", |tally| plan_bytes(tally, call, quick));
-        groups.group("pairs of plan fields", |tally| {
-            plan_pairs(tally, call, quick)
-        });
-        groups.group("plan lengths 0 to 40", |tally| plan_lengths(tally, call));
-        groups.group("DLLs and flash selects", |tally| {
-            dlls_and_selects(tally, call, quick)
-        });
-        groups.group("every DLL2", |tally| every_dll2(tally, call, quick));
+    if call.is_lent_plan {
+        compare_config_plans::run(&mut groups, call, quick);
     }
     groups.group("boot modes and ready flags", |tally| {
         boot_modes(tally, call)
@@ -68,46 +51,32 @@ fn groups(call: &'static Call, extent: Extent) -> Tally {
     groups.group("one byte changed", |tally| {
         one_byte_changed(tally, call, quick)
     });
-    groups.group("damaged heads", |tally| damaged_heads(tally, call, quick));
-    groups.group("random calls", |tally| random_calls(tally, call, extent));
+    let accepted = accepted(&mut extent.random("accepted plans"), ACCEPTED);
+    groups.random("damaged heads", DAMAGED, |tally, random| {
+        let head = damaged_or_any(random);
+        let plan = plan(random, &accepted);
+        random_call(tally, random, call, &head, &plan);
+    });
+    groups.random("random calls", RANDOM, |tally, random| {
+        let plan = plan(random, &accepted);
+        let head = head(random, &plan);
+        random_call(tally, random, call, &head, &plan);
+    });
     groups.finish(call.refusals)
 }
 
-/// One call on one input. Of a differing one the first answers are printed.
-fn compare(tally: &mut Tally, input: Input) {
-    let (ours, original) = (input.ours(), input.original());
-    tally.count(original.refusal());
-    tally.note_entries(original.entries().len());
-    if input.call.clocks == Clocks::Written && original.refusal() == 0 {
-        tally.note_value(original.value());
-    }
-    if original != ours {
-        let lent = (input.journal, input.answers.len());
-        let answers = &input.answers[..lent.1.min(SHOWN_ANSWERS)];
-        let input = Input { answers, ..input };
-        let input = format!("journal of {}, answers {}, {input}", lent.0, lent.1);
-        tally.differ(input, ours.beside(&original), original.beside(&ours));
-    }
-}
-
-/// A call with a journal of 128 words.
-fn on(tally: &mut Tally, call: &'static Call, head: &[u8], plan: &[u8], answers: &[u16]) {
-    compare(
-        tally,
-        Input {
-            call,
-            plan,
-            clocks: FORMER,
-            head,
-            journal: JOURNAL,
-            answers,
-        },
-    );
+/// A call with a journal of the usual length.
+pub fn on(tally: &mut Tally, call: &'static Call, head: &[u8], plan: &[u8], answers: &[u16]) {
+    tally.compare(&Query {
+        plan,
+        answers,
+        ..Query::on(call, head)
+    });
 }
 
 /// The plans, or one for a call that takes none.
 fn plans_for<'a>(call: &Call, plans: &'a [Record]) -> &'a [Record] {
-    match call.is_lent_plan() {
+    match call.is_lent_plan {
         true => plans,
         false => &plans[..1],
     }
@@ -154,126 +123,6 @@ fn core_clocks(tally: &mut Tally, call: &'static Call, quick: bool) {
                         on(tally, call, &buffer, plan, &ready);
                     }
                 }
-            }
-        }
-    }
-}
-
-/// Some plans with each byte at all values.
-fn plan_bytes(tally: &mut Tally, call: &'static Call, quick: bool) {
-    let heads = few_cores();
-    let heads = if quick { &heads[..2] } else { &heads };
-    let [ready, ..] = few_lists();
-    for good in few_plans() {
-        for index in 0..LENGTH {
-            for byte in 0..=255 {
-                let mut plan = good;
-                plan[index] = byte;
-                for head in heads {
-                    on(tally, call, head, &plan, &ready);
-                }
-            }
-        }
-    }
-}
-
-/// Some plans with each pair of fields at all codes, hdiv at some.
-fn plan_pairs(tally: &mut Tally, call: &'static Call, quick: bool) {
-    let codes = |index: usize| match index {
-        field::HDIV => DIVIDERS.to_vec(),
-        _ => (0..=LARGEST[index - field::CORE]).collect(),
-    };
-    let heads = few_cores();
-    let heads = if quick { &heads[4..5] } else { &heads };
-    let few = few_plans();
-    let few = if quick { &few[..2] } else { &few };
-    let [ready, ..] = few_lists();
-    for first in field::CORE..LENGTH {
-        for second in first + 1..LENGTH {
-            for byte in codes(first) {
-                for other in codes(second) {
-                    for &good in few {
-                        let mut plan = good;
-                        (plan[first], plan[second]) = (byte, other);
-                        for head in heads {
-                            on(tally, call, head, &plan, &ready);
-                        }
-                    }
-                }
-            }
-        }
-    }
-}
-
-/// Plans of every length, on heads that are refused and that are not.
-fn plan_lengths(tally: &mut Tally, call: &'static Call) {
-    let [ready, ..] = few_lists();
-    let good = buffer(&busy(), 0);
-    let heads = [good, with(good, &[(at::VERSION, 2)]), [0; BUFFER]];
-    for length in 0..=plans::LONGEST {
-        for plan in of_length(length) {
-            for head in &heads {
-                on(tally, call, head, &plan, &ready);
-            }
-        }
-    }
-}
-
-/// Both DLLs in the plan or not, set or not, as the plan has them or not; every
-/// pair of flash selects and of hpbg flags. In the full run with answers that
-/// end at either DLL.
-fn dlls_and_selects(tally: &mut Tally, call: &'static Call, quick: bool) {
-    let lists = if quick {
-        vec![vec![1, 1]]
-    } else {
-        vec![vec![1, 1], vec![1], vec![0, 1, 0], vec![]]
-    };
-    for setting in 0..1 << 11 {
-        let bit = |index: u32| (setting >> index & 1) as u8;
-        let mut plan = default_with(&[
-            (field::CALIBRATE, 0),
-            (field::USB, 0),
-            (field::MPI2, 0),
-            (field::CORE, 1 + 2 * bit(9)),
-        ]);
-        if bit(9) == 0 {
-            put_dll(&mut plan, field::DLL1, [0; 3]);
-        }
-        let planned = [[0; 3], [1, 11, 0], [1, 11, 1]];
-        for dll2 in planned {
-            put_dll(&mut plan, field::DLL2, dll2);
-            let mut buffer = buffer(&busy(), 0);
-            put_register(
-                &mut buffer,
-                5,
-                [0, setting as u8 & 3, setting as u8 >> 2 & 3],
-            );
-            put_register(&mut buffer, 11, [0, bit(4), bit(5)]);
-            put_register(&mut buffer, 4, [bit(6), bit(7), 11 - bit(8)]);
-            put_register(&mut buffer, 3, [bit(10), 0, 9]);
-            for answers in &lists {
-                on(tally, call, &buffer, &plan, answers);
-            }
-        }
-    }
-}
-
-/// Every DLL2 of the head with every DLL2 of the plan; quick with every fifth.
-fn every_dll2(tally: &mut Tally, call: &'static Call, quick: bool) {
-    let step = if quick { 5 } else { 1 };
-    for core in [1, 3] {
-        for dll2 in plans::dlls(&STAGES) {
-            let mut plan = default_with(&[
-                (field::CALIBRATE, 0),
-                (field::USB, 0),
-                (field::HDIV, 5),
-                (field::MPI2, 0),
-            ]);
-            put_dll(&mut plan, field::DLL2, dll2);
-            for present in dlls(&STAGES).into_iter().step_by(step) {
-                let mut buffer = with(buffer(&busy(), 0), &[(at::c(1), core)]);
-                put_register(&mut buffer, 4, present);
-                on(tally, call, &buffer, &plan, &[1, 0, 1]);
             }
         }
     }
@@ -385,18 +234,12 @@ fn refusals(tally: &mut Tally, call: &'static Call) {
                 head.resize(LONGEST, 0);
                 for length in [0, 254, 255, 256] {
                     for plan in plans_for(call, &plans) {
-                        let head = &head[..length];
-                        compare(
-                            tally,
-                            Input {
-                                call,
-                                plan,
-                                clocks: FORMER,
-                                head,
-                                journal,
-                                answers: &answers,
-                            },
-                        );
+                        tally.compare(&Query {
+                            plan,
+                            journal,
+                            answers: &answers,
+                            ..Query::on(call, &head[..length])
+                        });
                     }
                 }
             }
@@ -425,37 +268,6 @@ fn one_byte_changed(tally: &mut Tally, call: &'static Call, quick: bool) {
     }
 }
 
-/// Random heads with one to three bytes replaced, and any bytes.
-fn damaged_heads(tally: &mut Tally, call: &'static Call, quick: bool) {
-    let mut random = Random::new(0xDA3C);
-    let accepted = accepted(&mut random, ACCEPTED);
-    let number = if quick { DAMAGED_QUICK } else { DAMAGED };
-    for _ in 0..number {
-        let damaged = damaged(&mut random);
-        let first = plan(&mut random, &accepted);
-        random_call(tally, &mut random, call, &damaged, &first);
-        let garbage = garbage(&mut random);
-        let second = plan(&mut random, &accepted);
-        random_call(tally, &mut random, call, &garbage, &second);
-    }
-}
-
-/// Random heads; in a longer run each call gets its share of the seconds.
-fn random_calls(tally: &mut Tally, call: &'static Call, extent: Extent) {
-    let mut random = Random::new(0xC0F1);
-    let accepted = accepted(&mut random, ACCEPTED);
-    let number = if extent.quick { RANDOM_QUICK } else { RANDOM };
-    let least = Duration::from_secs(extent.seconds) / CALLS.len() as u32;
-    let began = Instant::now();
-    while tally.compared < number || began.elapsed() < least {
-        for _ in 0..1000 {
-            let plan = plan(&mut random, &accepted);
-            let head: Buffer = head(&mut random, &plan);
-            random_call(tally, &mut random, call, &head, &plan);
-        }
-    }
-}
-
 /// Random answers, clocks and length of the journal.
 fn random_call(
     tally: &mut Tally,
@@ -464,26 +276,16 @@ fn random_call(
     head: &[u8],
     plan: &[u8],
 ) {
-    let journal = match random.below(64) {
-        0 => random.below(128),
-        1 => 128 + random.below(1000),
-        _ => random.pick(&[128, 129, 200]),
-    };
     let is_measuring = match call.clocks {
-        Clocks::None => true,
         Clocks::Written => plan.get(field::CALIBRATE) == Some(&1),
         Clocks::Former => false,
+        _ => true,
     };
-    let answers = answers(random, head, is_measuring);
-    compare(
-        tally,
-        Input {
-            call,
-            plan,
-            clocks: clocks(random),
-            head,
-            journal,
-            answers: &answers,
-        },
-    );
+    tally.compare(&Query {
+        plan,
+        clocks: clocks(random),
+        journal: journal(random),
+        answers: &answers(random, head, is_measuring),
+        ..Query::on(call, head)
+    });
 }

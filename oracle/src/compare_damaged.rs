@@ -2,16 +2,16 @@
 //! of librikkovan.a against those of the oracle's decoder, and the lent memory.
 
 use crate::compare_head::compare;
+use crate::groups::{Groups, Number};
 use crate::heads::{
     Buffer, LONGEST, buffer, busy, damaged, garbage, plain, put_cycles, put_length, put_period,
     task, with, with_tasks,
 };
-use crate::tally::{Groups, Tally};
+use crate::tally::Tally;
 use sifli::head::{BUFFER, Head, LONGEST_PERIOD, MOST_TASKS, TASK, at};
 use sifli::random::Random;
 
-const RANDOM: u64 = 4_000_000;
-const RANDOM_QUICK: u64 = 1_000_000;
+const RANDOM: Number = Number::new(4_000_000, 1_000_000);
 
 /// A length field that is above that of every count of one byte.
 const PAST_ALL_LENGTHS: u16 = 109 + 9 * 256;
@@ -24,14 +24,11 @@ pub fn run(groups: &mut Groups, quick: bool) {
     });
     groups.group("tasks", tasks);
     groups.group("several faults", several_faults);
-    let number = if quick { RANDOM_QUICK } else { RANDOM };
-    groups.group("random damage", |tally| {
-        let mut random = Random::new(0xDA3A);
-        (0..number).for_each(|_| compare(tally, &damaged(&mut random)));
+    groups.random("random damage", RANDOM, |tally, random| {
+        compare(tally, &damaged(random))
     });
-    groups.group("random bytes", |tally| {
-        let mut random = Random::new(0x6A5B);
-        (0..number).for_each(|_| compare(tally, &garbage(&mut random)));
+    groups.random("random bytes", RANDOM, |tally, random| {
+        compare(tally, &garbage(random))
     });
 }
 

@@ -2,23 +2,22 @@
 
 use crate::compare::Extent;
 use crate::compare_damaged;
+use crate::groups::{Groups, Number, Report};
 use crate::heads::{
     Buffer, DIVIDERS, buffer, dlls, likely, plain, put_flags, put_register, random_with_tasks, with,
 };
-use crate::lent::Read;
+use crate::ours::differs;
 use crate::plans::STAGES;
-use crate::tally::{Groups, Tally, hex};
+use crate::read::Read;
+use crate::tally::Tally;
 use sifli::head::{MOST_TASKS, at};
-use sifli::random::Random;
-use std::time::{Duration, Instant};
+use sifli::query::{Id, Query, call};
 
-const RANDOM: u64 = 10_000_000;
-const RANDOM_QUICK: u64 = 4_000_000;
+const RANDOM: Number = Number::new(10_000_000, 4_000_000);
 
-/// Compares all groups and gives their sum.
-pub fn run(extent: Extent) -> Tally {
+pub fn run(extent: Extent) -> Report {
     let quick = extent.quick;
-    let mut groups = Groups::new("readings");
+    let mut groups = Groups::of_original("read_clocks and read_lpsys", extent);
     groups.group("core clock", |tally| core_clock(tally, quick));
     groups.group("USB", |tally| usb(tally, quick));
     groups.group("flash, peripheral and low-power selects", |tally| {
@@ -26,24 +25,25 @@ pub fn run(extent: Extent) -> Tally {
     });
     groups.group("LPSYS", |tally| lpsys(tally, quick));
     compare_damaged::run(&mut groups, quick);
-    groups.group("random heads", |tally| random_heads(tally, extent));
+    groups.random("random heads", RANDOM, |tally, random| {
+        let buffer = match random.once_in(1000) {
+            true => random_with_tasks(random, MOST_TASKS),
+            false => likely(random),
+        };
+        compare(tally, &buffer);
+    });
     groups.finish(&[0, 1, 2, 3])
 }
 
-/// Both calls on one buffer, with the memory lent to them before and after.
+/// Both calls on one buffer, with the memory lent to them before and after. A panic
+/// of the original code counts as a difference.
 pub fn compare(tally: &mut Tally, buffer: &[u8]) {
-    let ours = Read::ours(buffer);
-    match Read::original(buffer) {
-        Ok(original) => {
-            tally.count(original.answer());
-            if original != ours {
-                tally.differ(hex(buffer), original, ours);
-            }
-        }
-        Err(text) => {
-            tally.count(0);
-            tally.differ(hex(buffer), text, ours);
-        }
+    let original = Read::original(buffer);
+    tally.count(original.as_ref().map_or(0, Read::answer));
+    if original != Ok(Read::ours(buffer)) {
+        let clocks = Query::on(call(Id::ReadClocks), buffer);
+        let lpsys = Query::on(call(Id::ReadLpsys), buffer);
+        tally.differ(if differs(&clocks) { &clocks } else { &lpsys });
     }
 }
 
@@ -167,19 +167,5 @@ fn lpsys_dividers(tally: &mut Tally, mut buffer: Buffer, hdivs: &[u8]) {
                 compare(tally, &buffer);
             }
         }
-    }
-}
-
-fn random_heads(tally: &mut Tally, extent: Extent) {
-    let mut random = Random::new(0x4EAD);
-    let number = if extent.quick { RANDOM_QUICK } else { RANDOM };
-    let least = Duration::from_secs(extent.seconds);
-    let began = Instant::now();
-    while tally.compared < number || began.elapsed() < least {
-        for _ in 0..1000 {
-            compare(tally, &likely(&mut random));
-        }
-        let count = random.below(MOST_TASKS + 1);
-        compare(tally, &random_with_tasks(&mut random, count));
     }
 }

@@ -2,26 +2,23 @@
 //! each call on the buffer that the one before left, with demand 3 asked of every
 //! moment of the whole list.
 
-use crate::change_calls::Input;
-use crate::change_inputs::{answers, any_plan, fit_head, journal, put_tasks};
+use crate::change_inputs::{answers, any_plan, fit_head, put_tasks};
 use crate::compare::Extent;
-use crate::compare_change::{ACCEPTED, SHARES};
-use crate::config_inputs::accepted;
-use crate::heads::Buffer;
-use crate::lpsys;
+use crate::compare_change::{ACCEPTED, holds};
+use crate::config_plans::accepted;
+use crate::groups::{Groups, Number, Report};
+use crate::heads::{Buffer, journal};
 use crate::plans::Record;
-use crate::tally::{Groups, Tally};
-use crate::task_calls::{self, Call};
-use crate::task_inputs::{any_past, random_id, random_task};
+use crate::tally::Tally;
+use crate::task_inputs::{Order, any_past, random_id, random_task};
 use sifli::claim::{self, Booked, Broken, Seen};
 use sifli::head::{Head, decode};
+use sifli::lent::Left;
+use sifli::query::{Id, Query, call};
 use sifli::random::Random;
 use sifli::readings;
-use std::fmt::Display;
-use std::time::{Duration, Instant};
 
-const LISTS: u64 = 100_000;
-const LISTS_QUICK: u64 = 40_000;
+const CALLS: Number = Number::new(1_250_000, 500_000);
 
 /// The most calls of a list.
 const MOST_CALLS: usize = 24;
@@ -35,22 +32,12 @@ const ANSWERS: [usize; 25] = [
 /// Refusals that no list from a fit head meets.
 const NEVER: [u64; 3] = [34, 35, 37];
 
-/// Compares the lists and gives their sum.
-pub fn run(extent: Extent) -> Tally {
-    let mut groups = Groups::ruled("lists of calls");
-    let mut random = Random::new(0x1157);
-    let accepted = accepted(&mut random, ACCEPTED);
-    let number = if extent.quick { LISTS_QUICK } else { LISTS };
-    let least = Duration::from_secs(extent.seconds) / SHARES;
-    let began = Instant::now();
-    let mut lists = 0;
-    groups.group("random calls from fit heads", |tally| {
-        while lists < number || began.elapsed() < least {
-            List::begin(&mut random).run(tally, &mut random, &accepted);
-            lists += 1;
-        }
+pub fn run(extent: Extent) -> Report {
+    let mut groups = Groups::ruled("lists of calls", extent);
+    let accepted = accepted(&mut extent.random("accepted plans"), ACCEPTED);
+    groups.random("random calls from fit heads", CALLS, |tally, random| {
+        List::begin(random).run(tally, random, &accepted)
     });
-    println!("lists of calls: {lists} lists");
     groups.finish(&ANSWERS)
 }
 
@@ -60,15 +47,6 @@ struct List {
     buffer: Buffer,
     head: Head,
     booked: Booked,
-}
-
-/// What a call left.
-struct Left {
-    answer: u64,
-    moments: usize,
-    buffer: Vec<u8>,
-    /// Whether both sides left the same.
-    is_alike: bool,
 }
 
 impl List {
@@ -87,8 +65,14 @@ impl List {
     fn run(mut self, tally: &mut Tally, random: &mut Random, accepted: &[Record]) {
         for _ in 0..1 + random.below(MOST_CALLS) {
             let goes_on = match random.below(16) {
-                0..4 => self.book(tally, random),
-                4..6 => self.release(tally, random),
+                0..4 => {
+                    let task = random_task(random, &self.head);
+                    self.order(tally, Order::Book(task))
+                }
+                4..6 => {
+                    let id = random_id(random, &self.head);
+                    self.order(tally, Order::Release(id))
+                }
                 6..9 => self.request(tally, random),
                 _ => self.change(tally, random, accepted),
             };
@@ -99,129 +83,80 @@ impl List {
     }
 
     fn change(&mut self, tally: &mut Tally, random: &mut Random, accepted: &[Record]) -> bool {
-        let plan = any_plan(random, accepted);
-        let (head, journal, answers) = (self.buffer, journal(random), answers(random));
-        let input = Input {
-            plan: &plan,
-            head: &head,
-            journal,
-            answers: &answers,
+        let head = self.buffer;
+        let query = Query {
+            plan: &any_plan(random, accepted),
+            journal: journal(random),
+            answers: &answers(random),
+            ..Query::on(call(Id::Change), &head)
         };
-        let (ours, ruled) = (input.ours(), input.ruled());
-        tally.count(ruled.refusal());
-        tally.note_entries(ruled.entries().len());
-        let held = input.holds(&ours);
-        let left = Left {
-            answer: ours.refusal(),
-            moments: ours.entries().len() + 1,
-            buffer: ours.head().to_vec(),
-            is_alike: ours == ruled,
-        };
-        if !left.is_alike {
-            tally.differ(input, ours.beside(&ruled), ruled.beside(&ours));
-        }
-        self.follow(tally, input, left, held)
+        self.go_on(tally, &query, |_, left| holds(&query, left))
     }
 
     fn request(&mut self, tally: &mut Tally, random: &mut Random) -> bool {
         let head = self.buffer;
-        let input = lpsys::Input {
-            call: lpsys::calls().next().expect("the LPSYS request"),
+        let query = Query {
             arguments: [random.below(52) as u32, 0, 0],
-            head: &head,
             journal: journal(random),
-            answers: &[],
+            ..Query::on(call(Id::Request), &head)
         };
-        let (ours, original) = (input.ours(), input.original());
-        tally.count(original.refusal());
-        let left = Left {
-            answer: ours.refusal(),
-            moments: ours.entries().len() + 1,
-            buffer: ours.head().to_vec(),
-            is_alike: ours == original,
-        };
-        if !left.is_alike {
-            tally.differ(&input, ours.beside(&original), original.beside(&ours));
-        }
-        let held = self.held(&left, ours.entries(), ours.taken() as usize);
-        self.follow(tally, input, left, held)
+        self.go_on(tally, &query, |list, left| list.held(left))
     }
 
-    fn book(&mut self, tally: &mut Tally, random: &mut Random) -> bool {
-        let task = random_task(random, &self.head);
-        self.of_tasks(tally, Call::Book(task))
-    }
-
-    fn release(&mut self, tally: &mut Tally, random: &mut Random) -> bool {
-        let id = random_id(random, &self.head);
-        self.of_tasks(tally, Call::Release(id))
-    }
-
-    fn of_tasks(&mut self, tally: &mut Tally, call: Call) -> bool {
-        let bytes = self.buffer;
-        let input = task_calls::Input {
-            call,
-            bytes: &bytes,
-        };
-        let (ours, ruled) = (input.ours(), input.ruled());
-        tally.count(ruled.refusal());
-        let left = Left {
-            answer: ours.refusal(),
-            moments: 1,
-            buffer: ours.bytes().to_vec(),
-            is_alike: ours == ruled,
-        };
-        if !left.is_alike {
-            tally.differ(input, ours.beside(&ruled), ruled.beside(&ours));
-        }
-        let mut held = self.held(&left, &[], 0);
-        match call {
-            Call::Book(task) if left.answer == 0 => {
-                self.booked.add(task);
-                let carried = decoded(&left).and_then(|head| claim::load_is_carried(&head));
-                held = held.and(carried);
+    fn order(&mut self, tally: &mut Tally, order: Order) -> bool {
+        let head = self.buffer;
+        self.go_on(tally, &order.on(&head), |list, left| {
+            list.held(left)?;
+            match order {
+                Order::Book(task) if left.refusal() == 0 => {
+                    list.booked.add(task);
+                    claim::load_is_carried(&decoded(left)?)
+                }
+                Order::Release(id) if left.refusal() == 0 => {
+                    list.booked.take_out(id);
+                    Ok(())
+                }
+                _ => Ok(()),
             }
-            Call::Release(id) if left.answer == 0 => self.booked.take_out(id),
-            _ => {}
-        }
-        self.follow(tally, input, left, held)
+        })
     }
 
     /// The clauses of every call.
-    fn held(&self, left: &Left, entries: &[u32], taken: usize) -> Result<(), Broken> {
+    fn held(&self, left: &Left) -> Result<(), Broken> {
         let after = decoded(left)?;
         claim::of_call(&Seen {
             before: &self.head,
-            answer: left.answer,
-            entries,
-            taken,
+            answer: left.refusal(),
+            entries: left.entries(),
+            taken: left.taken() as usize,
             after: &after,
         })
     }
 
-    /// Counts what a call left, and puts it in place for the next one; false where
-    /// the list ends here.
-    fn follow(
+    /// Compares a call, asks the clauses of it, and puts what it left in place for the
+    /// next one; false where the list ends here. What a broken clause says depends on
+    /// the list, so its query is printed as it is.
+    fn go_on(
         &mut self,
         tally: &mut Tally,
-        input: impl Display,
-        left: Left,
-        held: Result<(), Broken>,
+        query: &Query,
+        held: impl FnOnce(&mut Self, &Left) -> Result<(), Broken>,
     ) -> bool {
-        let held = held.and_then(|()| self.put(&left));
-        let goes_on = left.is_alike && held.is_ok();
-        tally.claim(input, left.moments, held);
-        goes_on
+        let (left, is_alike) = tally.compare(query);
+        let held = held(self, &left).and_then(|()| self.put(&left));
+        let is_held = held.is_ok();
+        tally.claim(query, left.entries().len() + 1, held, |_| Ok(()));
+        is_alike && is_held
     }
 
     /// Of every call: not refused as no fit head is, and the head is fit after it
     /// and holds just what is booked.
     fn put(&mut self, left: &Left) -> Result<(), Broken> {
-        if NEVER.contains(&left.answer) {
-            return Err(format!("refused {} on a fit head", left.answer));
+        if NEVER.contains(&left.refusal()) {
+            return Err(format!("refused {} on a fit head", left.refusal()));
         }
         self.head = decoded(left)?;
-        self.buffer.copy_from_slice(&left.buffer);
+        self.buffer.copy_from_slice(left.bytes());
         if !claim::is_fit(&self.head) {
             return Err("the head is not fit after the call".to_string());
         }
@@ -230,5 +165,5 @@ impl List {
 }
 
 fn decoded(left: &Left) -> Result<Head, Broken> {
-    decode(&left.buffer).map_err(|_| "the buffer is no head".to_string())
+    decode(left.bytes()).map_err(|_| "the buffer is no head".to_string())
 }

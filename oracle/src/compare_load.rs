@@ -1,21 +1,21 @@
 //! Groups of the load check.
 
 use crate::compare::Extent;
-use crate::compare_tasks::{compare, random_calls};
-use crate::tally::{Groups, Tally};
-use crate::task_calls::{Call, LOAD_CHECK};
+use crate::groups::{Groups, Number, Report};
+use crate::tally::Tally;
 use crate::task_inputs::{
     LONGEST, all_cycles, all_periods, damaged_list, light_list, list, random_list,
 };
 use sifli::head::{LONGEST_PERIOD, MOST_TASKS, TASK, Task};
+use sifli::query::{Id, Query, call};
 use sifli::random::Random;
 
-const DAMAGED: u64 = 500_000;
-const DAMAGED_QUICK: u64 = 60_000;
+const RANDOM: Number = Number::new(1_500_000, 300_000);
+const DAMAGED: Number = Number::new(500_000, 60_000);
 
-pub fn run(extent: Extent) -> Tally {
+pub fn run(extent: Extent) -> Report {
     let quick = extent.quick;
-    let mut groups = Groups::ruled("load_check");
+    let mut groups = Groups::ruled("load_check", extent);
     groups.group("shares", |tally| shares(tally, quick));
     groups.group("sums", sums);
     groups.group("fields", fields);
@@ -23,18 +23,17 @@ pub fn run(extent: Extent) -> Tally {
     groups.group("one byte changed", one_byte_changed);
     groups.group("lengths", lengths);
     groups.group("several faults", several_faults);
-    groups.group("damaged lists", |tally| damaged_lists(tally, quick));
-    groups.group("random lists", |tally| {
-        let mut random = Random::new(0x10AD);
-        random_calls(tally, extent, |tally| {
-            check(tally, &random_list(&mut random))
-        });
+    groups.random("damaged lists", DAMAGED, |tally, random| {
+        check(tally, &damaged_list(random))
     });
-    groups.finish(&LOAD_CHECK)
+    groups.random("random lists", RANDOM, |tally, random| {
+        check(tally, &random_list(random))
+    });
+    groups.finish(call(Id::LoadCheck).refusals)
 }
 
 fn check(tally: &mut Tally, bytes: &[u8]) {
-    compare(tally, Call::LoadCheck, bytes);
+    tally.compare(&Query::on(call(Id::LoadCheck), bytes));
 }
 
 /// One task: cycles with periods, each at and around its limits, powers of two
@@ -218,13 +217,5 @@ fn several_faults(tally: &mut Tally) {
         for less in [0, 1, TASK - 1, TASK, TASK + 1] {
             check(tally, &bytes[..bytes.len() - less]);
         }
-    }
-}
-
-fn damaged_lists(tally: &mut Tally, quick: bool) {
-    let mut random = Random::new(0xDA3D);
-    let number = if quick { DAMAGED_QUICK } else { DAMAGED };
-    for _ in 0..number {
-        check(tally, &damaged_list(&mut random));
     }
 }

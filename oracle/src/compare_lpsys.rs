@@ -1,68 +1,49 @@
 //! The calls of LPSYS of librikkovan.a against the original's.
 
 use crate::compare::Extent;
+use crate::groups::{Groups, Number, Report};
 use crate::heads::{
-    DIVIDERS, LONGEST, buffer, busy, damaged, dlls, few_heads, garbage, plain, put_flags,
+    DIVIDERS, LONGEST, buffer, busy, damaged_or_any, dlls, few_heads, journal, plain, put_flags,
     put_register, task, with, with_tasks,
 };
-use crate::lpsys::{Call, Input, calls};
 use crate::lpsys_inputs::{all, answer_lists, answers, arguments, ends, few_lists, head, usual};
 use crate::plans::STAGES;
-use crate::tally::{Groups, Tally};
+use crate::tally::Tally;
 use sifli::call::MOST_ANSWERS;
+use sifli::calls::lpsys;
 use sifli::head::at;
+use sifli::query::{Call, Query};
 use sifli::random::Random;
-use std::time::{Duration, Instant};
 
-const RANDOM: u64 = 1_000_000;
-const RANDOM_QUICK: u64 = 400_000;
-const DAMAGED: u64 = 200_000;
-const DAMAGED_QUICK: u64 = 30_000;
+const RANDOM: Number = Number::new(1_000_000, 400_000);
+const DAMAGED: Number = Number::new(400_000, 60_000);
 
-/// The words of the journal where nothing is tested about them.
-const JOURNAL: usize = 128;
-
-/// Answers printed of a differing input.
-const SHOWN_ANSWERS: usize = 100;
-
-/// Compares all groups of all calls and gives their sum.
-pub fn run(extent: Extent) -> Tally {
-    let mut sum = Tally::default();
-    for call in calls() {
-        sum.add(&groups(call, extent));
-    }
-    sum
+/// Compares all groups of all calls.
+pub fn run(extent: Extent) -> Vec<Report> {
+    lpsys().iter().map(|call| groups(call, extent)).collect()
 }
 
-fn groups(call: &'static Call, extent: Extent) -> Tally {
+fn groups(call: &'static Call, extent: Extent) -> Report {
     let quick = extent.quick;
-    let mut groups = Groups::new(call.function);
+    let mut groups = Groups::of_original(call.function, extent);
     groups.group("LPSYS clocks", |tally| lpsys_clocks(tally, call, quick));
     groups.group("core clocks", |tally| core_clocks(tally, call));
     groups.group("arguments", |tally| every_argument(tally, call, quick));
     groups.group("wake counts", |tally| wake_counts(tally, call));
     groups.group("answers", |tally| every_answer(tally, call, quick));
     groups.group("order of refusals", |tally| refusals(tally, call));
-    groups.group("damaged heads", |tally| damaged_heads(tally, call, quick));
-    groups.group("random calls", |tally| random_calls(tally, call, extent));
+    groups.random("damaged heads", DAMAGED, |tally, random| {
+        let bytes = damaged_or_any(random);
+        random_call(tally, random, call, &bytes);
+    });
+    groups.random("random calls", RANDOM, |tally, random| {
+        let head = head(random);
+        random_call(tally, random, call, &head);
+    });
     groups.finish(call.refusals)
 }
 
-/// One call on one input. Of a differing one the first answers are printed.
-fn compare(tally: &mut Tally, input: Input) {
-    let (ours, original) = (input.ours(), input.original());
-    tally.count(original.refusal());
-    tally.note_entries(original.entries().len());
-    if original != ours {
-        let lent = (input.journal, input.answers.len());
-        let answers = &input.answers[..lent.1.min(SHOWN_ANSWERS)];
-        let input = Input { answers, ..input };
-        let input = format!("journal of {}, answers {}, {input}", lent.0, lent.1);
-        tally.differ(input, ours.beside(&original), original.beside(&ours));
-    }
-}
-
-/// A call on a head with a journal of 128 words.
+/// A call on a head with a journal of the usual length.
 fn on(
     tally: &mut Tally,
     call: &'static Call,
@@ -72,16 +53,11 @@ fn on(
 ) {
     for &arguments in arguments {
         for answers in answers {
-            compare(
-                tally,
-                Input {
-                    call,
-                    arguments,
-                    head,
-                    journal: JOURNAL,
-                    answers,
-                },
-            );
+            tally.compare(&Query {
+                arguments,
+                answers,
+                ..Query::on(call, head)
+            });
         }
     }
 }
@@ -204,16 +180,12 @@ fn refusals(tally: &mut Tally, call: &'static Call) {
                 head.resize(LONGEST, 0);
                 for length in [0, 111, 254, 255, 256, LONGEST] {
                     for arguments in ends(call) {
-                        compare(
-                            tally,
-                            Input {
-                                call,
-                                arguments,
-                                head: &head[..length],
-                                journal,
-                                answers: &answers,
-                            },
-                        );
+                        tally.compare(&Query {
+                            arguments,
+                            journal,
+                            answers: &answers,
+                            ..Query::on(call, &head[..length])
+                        });
                     }
                 }
             }
@@ -221,48 +193,12 @@ fn refusals(tally: &mut Tally, call: &'static Call) {
     }
 }
 
-/// Random heads with one to three bytes replaced, and any bytes.
-fn damaged_heads(tally: &mut Tally, call: &'static Call, quick: bool) {
-    let mut random = Random::new(0xDA3B);
-    let number = if quick { DAMAGED_QUICK } else { DAMAGED };
-    for _ in 0..number {
-        let damaged = damaged(&mut random);
-        random_call(tally, &mut random, call, &damaged);
-        let garbage = garbage(&mut random);
-        random_call(tally, &mut random, call, &garbage);
-    }
-}
-
-/// Random heads; in a longer run each call gets its share of the seconds.
-fn random_calls(tally: &mut Tally, call: &'static Call, extent: Extent) {
-    let mut random = Random::new(0xCA11);
-    let number = if extent.quick { RANDOM_QUICK } else { RANDOM };
-    let least = Duration::from_secs(extent.seconds) / calls().count() as u32;
-    let began = Instant::now();
-    while tally.compared < number || began.elapsed() < least {
-        for _ in 0..1000 {
-            let head = head(&mut random);
-            random_call(tally, &mut random, call, &head);
-        }
-    }
-}
-
 /// Random arguments, answers and length of the journal.
 fn random_call(tally: &mut Tally, random: &mut Random, call: &'static Call, head: &[u8]) {
-    let journal = match random.below(64) {
-        0 => random.below(128),
-        1 => 128 + random.below(1000),
-        _ => random.pick(&[128, 129, 200]),
-    };
-    let answers = answers(random, call);
-    compare(
-        tally,
-        Input {
-            call,
-            arguments: arguments(random, call),
-            head,
-            journal,
-            answers: &answers,
-        },
-    );
+    tally.compare(&Query {
+        arguments: arguments(random, call),
+        journal: journal(random),
+        answers: &answers(random, call),
+        ..Query::on(call, head)
+    });
 }

@@ -2,21 +2,20 @@
 
 use crate::compare::Extent;
 use crate::ffi;
+use crate::groups::{Groups, Number, Report};
 use crate::plans::{
     LONGEST, Record, STAGES, coded, damaged, default_with, dlls, likely, near_default, of_length,
     put_dll,
 };
-use crate::tally::{Groups, Tally, hex};
+use crate::tally::Tally;
 use sifli::plan::{self, DEFAULT, LENGTH, at};
+use sifli::query::Query;
 use sifli::random::Random;
-use std::time::{Duration, Instant};
 
-const RANDOM: u64 = 10_000_000;
-const RANDOM_QUICK: u64 = 3_500_000;
+const RANDOM: Number = Number::new(10_000_000, 3_500_000);
 
-/// Compares all groups and gives their sum.
-pub fn run(extent: Extent) -> Tally {
-    let mut groups = Groups::new("plan check");
+pub fn run(extent: Extent) -> Report {
+    let mut groups = Groups::of_original("plan_check", extent);
     groups.group("dividers and DLLs", |tally| {
         dividers_and_dlls(tally, extent.quick)
     });
@@ -24,7 +23,7 @@ pub fn run(extent: Extent) -> Tally {
     groups.group("one byte changed", one_byte_changed);
     groups.group("lengths 0 to 40", lengths);
     groups.group("length fields", length_fields);
-    groups.group("random plans", |tally| random_plans(tally, extent));
+    groups.random("random plans", RANDOM, random_plan);
     groups.finish(&[0, 1, 2, 3, 4, 5, 6, 7, 8, 9, 10, 11, 12, 13, 14])
 }
 
@@ -33,7 +32,7 @@ fn compare(tally: &mut Tally, slice: &[u8]) {
     let ours = ffi::plan_check(slice);
     tally.count(original);
     if original != ours {
-        tally.differ(hex(slice), original, ours);
+        tally.differ(&Query::plan(slice));
     }
 }
 
@@ -149,18 +148,6 @@ fn length_fields(tally: &mut Tally) {
         for field in 0..=u16::MAX {
             plan[..2].copy_from_slice(&field.to_be_bytes());
             compare(tally, &plan);
-        }
-    }
-}
-
-fn random_plans(tally: &mut Tally, extent: Extent) {
-    let mut random = Random::new(0x5EED);
-    let number = if extent.quick { RANDOM_QUICK } else { RANDOM };
-    let least = Duration::from_secs(extent.seconds);
-    let began = Instant::now();
-    while tally.compared < number || began.elapsed() < least {
-        for _ in 0..1000 {
-            random_plan(tally, &mut random);
         }
     }
 }

@@ -185,6 +185,18 @@ impl Task {
 }
 
 impl Head {
+    /// All oscillators ready, the core on HXT48, everything else 0, no tasks.
+    pub fn plain() -> Self {
+        let mut head = Self {
+            hxt48_ready: true,
+            hrc48_ready: true,
+            lpsys_hxt48_ready: true,
+            ..Self::default()
+        };
+        head.registers[1] = 1;
+        head
+    }
+
     /// Every byte any of its values, and up to 16 tasks.
     pub fn random(random: &mut Random) -> Self {
         let mut head = Self {

@@ -11,16 +11,8 @@ pub const LONGEST: usize = 300;
 /// Dividers at the ends and around powers of two.
 pub const DIVIDERS: [u8; 12] = [0, 1, 2, 3, 5, 7, 10, 127, 128, 129, 254, 255];
 
-/// All oscillators ready, the core on HXT48, everything else 0, no tasks.
 pub fn plain() -> Head {
-    let mut head = Head {
-        hxt48_ready: true,
-        hrc48_ready: true,
-        lpsys_hxt48_ready: true,
-        ..Head::default()
-    };
-    head.registers[1] = 1;
-    head
+    Head::plain()
 }
 
 /// The core at 240 MHz from DLL1, USB at 60 MHz, DLL2 at 288 MHz, LPSYS at 24
@@ -128,10 +120,6 @@ pub fn put_register(buffer: &mut Buffer, number: usize, bytes: [u8; 3]) {
 
 /// A few heads: zeros, all oscillators ready, LPSYS at 24 MHz with 16 tasks,
 /// every register byte at its largest.
-#[cfg_attr(
-    not(any(feature = "lpsys-request", feature = "config")),
-    allow(dead_code)
-)]
 pub fn few_heads() -> [Buffer; 4] {
     let mut largest = buffer(&with_tasks(plain(), 3), 0xEE);
     for (number, bytes) in (1..).zip(LARGEST) {
@@ -196,6 +184,23 @@ pub fn garbage(random: &mut Random) -> Vec<u8> {
         bytes.resize(random.below(LONGEST + 1), random.byte());
     }
     bytes
+}
+
+/// A damaged head, or any bytes.
+pub fn damaged_or_any(random: &mut Random) -> Vec<u8> {
+    match random.once_in(2) {
+        true => damaged(random).to_vec(),
+        false => garbage(random),
+    }
+}
+
+/// The words of a journal: most often the fewest, now and then too few or many.
+pub fn journal(random: &mut Random) -> usize {
+    match random.below(64) {
+        0 => random.below(128),
+        1 => 128 + random.below(1000),
+        _ => random.pick(&[128, 129, 200]),
+    }
 }
 
 /// A random head with so many tasks of any cycles and periods.

@@ -1,85 +1,194 @@
-//! What the two reading calls leave: their answer words and the lent memory.
+//! The memory that is lent to a call, and what a call leaves in it.
 
-use crate::ffi;
-use sifli::head;
-use sifli::readings;
-use std::fmt::{self, Display, Formatter};
+use crate::call::Outcome;
+use crate::head::{BUFFER, Head};
+use std::fmt::Write;
 
 /// Bit 63 of an answer word.
-const REFUSED: u64 = 1 << 63;
+pub const REFUSED: u64 = 1 << 63;
 
-/// The lent memory: the 15 frequencies and the six of LPSYS, each between two
-/// elements that are not lent.
-type Lent = [u32; 24];
+/// Elements on each side of what is lent: room for a task and more.
+const FENCE: usize = 16;
 
-const CLOCKS: usize = 1;
-const LPSYS: usize = 17;
+/// What a call may write; each part is empty where the call is not lent it.
+pub struct Lent<'a> {
+    /// The head's buffer, or a list of tasks.
+    pub bytes: &'a mut [u8],
+    pub clocks: &'a mut [u32],
+    pub journal: &'a mut [u32],
+}
 
-/// What the lent memory holds before the calls: no two elements alike, and no
-/// frequency.
-const BEFORE: Lent = {
-    let mut lent = [0xA5A5_A500; 24];
+impl Lent<'_> {
+    /// Writes what a call gave, and gives its answer word.
+    pub fn put(self, outcome: Result<Outcome, u64>) -> u64 {
+        let outcome = match outcome {
+            Ok(outcome) => outcome,
+            Err(refusal) => return REFUSED | refusal,
+        };
+        let entries = outcome.entries.len();
+        self.journal[..entries].copy_from_slice(&outcome.entries);
+        if let Ok(clocks) = <&mut [u32; 15]>::try_from(self.clocks) {
+            *clocks = outcome.clocks;
+        }
+        encode(&outcome.head, self.bytes);
+        let counts = (entries as u64) << 32 | (outcome.taken as u64) << 48;
+        match outcome.answer {
+            0 => counts | u64::from(outcome.value),
+            refusal => counts | REFUSED | refusal,
+        }
+    }
+
+    /// Writes the head that a call leaves which gives nothing else.
+    pub fn put_head(self, after: Result<Head, u64>) -> u64 {
+        match after {
+            Ok(head) => {
+                encode(&head, self.bytes);
+                0
+            }
+            Err(refusal) => REFUSED | refusal,
+        }
+    }
+}
+
+/// # Panics
+///
+/// Panics where the bytes are no head's buffer.
+fn encode(head: &Head, bytes: &mut [u8]) {
+    let buffer: &mut [u8; BUFFER] = bytes.try_into().expect("a head's buffer");
+    head.encode(buffer);
+}
+
+/// What a call leaves: its answer word, and what was lent to it between fences.
+#[derive(Clone, PartialEq, Eq, Debug)]
+pub struct Left {
+    pub word: u64,
+    bytes: Vec<u8>,
+    clocks: Vec<u32>,
+    journal: Vec<u32>,
+}
+
+impl Left {
+    /// Lends copies of these, and a journal whose words are no entries.
+    pub fn by(
+        bytes: Option<&[u8]>,
+        clocks: &[u32],
+        journal: Option<usize>,
+        call: impl FnOnce(Lent) -> u64,
+    ) -> Self {
+        let mut left = Self {
+            word: 0,
+            bytes: bytes.map_or(Vec::new(), |bytes| {
+                fenced(bytes, |index| 0xA0 ^ index as u8)
+            }),
+            clocks: match clocks {
+                [] => Vec::new(),
+                _ => fenced(clocks, |index| 0xA5A5_A500 ^ index),
+            },
+            journal: journal.map_or(Vec::new(), |words| {
+                (0..(words + 2 * FENCE) as u32)
+                    .map(|index| 0xA5A5_0000 ^ index)
+                    .collect()
+            }),
+        };
+        left.word = call(Lent {
+            bytes: lent_mut(&mut left.bytes),
+            clocks: lent_mut(&mut left.clocks),
+            journal: lent_mut(&mut left.journal),
+        });
+        left
+    }
+
+    /// 0 for done, else the refusal number.
+    pub fn refusal(&self) -> u64 {
+        match self.word & REFUSED {
+            0 => 0,
+            _ => self.word & 0xFFFF_FFFF,
+        }
+    }
+
+    /// The value, or all of the word where it is a load.
+    pub fn value(&self) -> u64 {
+        match self.word & REFUSED {
+            0 if self.journal.is_empty() => self.word,
+            0 => self.word & 0xFFFF_FFFF,
+            _ => 0,
+        }
+    }
+
+    pub fn taken(&self) -> u64 {
+        match self.journal.is_empty() {
+            true => 0,
+            false => self.word >> 48 & 0x7FFF,
+        }
+    }
+
+    /// The entries written, as far as they lie in the lent journal.
+    pub fn entries(&self) -> &[u32] {
+        let (journal, entries) = (lent(&self.journal), self.word >> 32 & 0xFFFF);
+        &journal[..journal.len().min(entries as usize)]
+    }
+
+    /// The lent bytes after the call.
+    pub fn bytes(&self) -> &[u8] {
+        lent(&self.bytes)
+    }
+
+    /// The lent clocks after the call.
+    pub fn clocks(&self) -> &[u32] {
+        lent(&self.clocks)
+    }
+
+    /// What another has that this one has not: the word, and journal words, bytes
+    /// and clocks by their place, counted from the first that is lent.
+    pub fn beside(&self, other: &Self) -> String {
+        let mut text = format!("word {:016X}", other.word);
+        for (place, word) in changes(&self.journal, &other.journal) {
+            let _ = write!(text, " journal[{place}] {word:08X}");
+        }
+        for (place, byte) in changes(&self.bytes, &other.bytes) {
+            let _ = write!(text, " byte[{place}] {byte:02X}");
+        }
+        for (place, clock) in changes(&self.clocks, &other.clocks) {
+            let _ = write!(text, " clocks[{place}] {clock}");
+        }
+        text
+    }
+}
+
+/// Words from a first one on, no two alike.
+pub const fn numbered<const N: usize>(first: u32) -> [u32; N] {
+    let mut words = [first; N];
     let mut index = 0;
-    while index < lent.len() {
-        lent[index] += index as u32;
+    while index < N {
+        words[index] += index as u32;
         index += 1;
     }
-    lent
-};
-
-#[derive(Clone, PartialEq, Eq)]
-pub struct Read {
-    words: [u64; 2],
-    lent: Lent,
+    words
 }
 
-impl Read {
-    /// By the original code, and for refusals by the oracle's decoder. The
-    /// text of a panic where the original code ends in one.
-    pub fn original(buffer: &[u8]) -> Result<Self, String> {
-        let mut read = Self {
-            words: [0; 2],
-            lent: BEFORE,
-        };
-        match head::decode(buffer) {
-            Err(refusal) => read.words = [REFUSED | refusal; 2],
-            Ok(head) => {
-                let (clocks, lpsys) = readings::both(head)?;
-                read.lent[CLOCKS..CLOCKS + 15].copy_from_slice(&clocks);
-                read.lent[LPSYS..LPSYS + 6].copy_from_slice(&lpsys);
-            }
-        }
-        Ok(read)
-    }
-
-    /// By librikkovan.a.
-    pub fn ours(buffer: &[u8]) -> Self {
-        let mut lent = BEFORE;
-        let clocks = ffi::read_clocks(buffer, &mut lent, CLOCKS);
-        let lpsys = ffi::read_lpsys(buffer, &mut lent, LPSYS);
-        Self {
-            words: [clocks, lpsys],
-            lent,
-        }
-    }
-
-    /// 0, or the refusal number of the first call.
-    pub fn answer(&self) -> u64 {
-        self.words[0] & !REFUSED
-    }
-
-    /// The 15 frequencies and the six of LPSYS.
-    pub fn frequencies(&self) -> impl Iterator<Item = u32> {
-        let lent = self.lent;
-        let places = (CLOCKS..CLOCKS + 15).chain(LPSYS..LPSYS + 6);
-        places.map(move |index| lent[index])
-    }
+/// What is lent, between fences no two elements of which are alike.
+fn fenced<T: Copy>(lent: &[T], element: impl Fn(u32) -> T) -> Vec<T> {
+    let mut memory = Vec::with_capacity(lent.len() + 2 * FENCE);
+    memory.extend((0..FENCE as u32).map(&element));
+    memory.extend_from_slice(lent);
+    memory.extend((FENCE as u32..2 * FENCE as u32).map(&element));
+    memory
 }
 
-/// Words and lent memory as they are, in hex and decimal.
-impl Display for Read {
-    fn fmt(&self, f: &mut Formatter) -> fmt::Result {
-        let Self { words, lent } = self;
-        write!(f, "words {:016X} {:016X} lent {lent:?}", words[0], words[1])
-    }
+/// What stands between the fences; nothing where nothing is lent.
+fn lent<T>(memory: &[T]) -> &[T] {
+    memory
+        .get(FENCE..memory.len().saturating_sub(FENCE))
+        .unwrap_or(&[])
+}
+
+fn lent_mut<T>(memory: &mut [T]) -> &mut [T] {
+    let end = memory.len().saturating_sub(FENCE);
+    memory.get_mut(FENCE..end).unwrap_or(&mut [])
+}
+
+/// Where the second differs from the first, counted from the first lent element.
+fn changes<T: Copy + PartialEq>(first: &[T], second: &[T]) -> impl Iterator<Item = (isize, T)> {
+    let pairs = (-(FENCE as isize)..).zip(first.iter().zip(second));
+    pairs.filter_map(|(place, (a, b))| (a != b).then_some((place, *b)))
 }

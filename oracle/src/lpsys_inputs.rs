@@ -1,13 +1,13 @@
 //! Arguments, answers and random heads for the calls of LPSYS.
 
 use crate::heads::{Buffer, likely};
-use crate::lpsys::{Argument, Call};
 use sifli::call::MOST_ANSWERS;
 use sifli::head::at;
+use sifli::query::{Argument, Call};
 use sifli::random::Random;
 
 /// Answers that end a wait: one and several bits, in either byte.
-const READY: [u16; 6] = [1, 2, 0x0100, 0x8000, 0x00FF, u16::MAX];
+pub const READY: [u16; 6] = [1, 2, 0x0100, 0x8000, 0x00FF, u16::MAX];
 
 /// Every choice of arguments, each from its list.
 fn choices(lists: &[Vec<u32>]) -> Vec<[u32; 3]> {

@@ -2,106 +2,84 @@
 //! change with document 01; records the answers, and measures both.
 
 mod bench;
+mod bench_calls;
+mod change_inputs;
 mod compare;
+mod compare_booking;
+mod compare_booking_refused;
+mod compare_change;
+mod compare_change_refused;
+mod compare_config;
+mod compare_config_plans;
 mod compare_damaged;
 mod compare_head;
-mod compare_plan;
-mod ffi;
-mod heads;
-mod lent;
-mod plans;
-mod record;
-mod record_head;
-mod record_plan;
-mod tally;
-
-// What librikkovan.a exports of LPSYS: see the features in Cargo.toml.
-#[cfg(feature = "lpsys-request")]
-mod compare_lpsys;
-#[cfg(feature = "lpsys-request")]
-mod ffi_lpsys;
-#[cfg(feature = "lpsys-request")]
-mod lpsys;
-#[cfg(feature = "lpsys-request")]
-mod lpsys_inputs;
-#[cfg(feature = "lpsys-request")]
-mod record_lpsys;
-
-// What it exports of rcc/clock_config.rs.
-#[cfg(feature = "config")]
-mod bench_config;
-#[cfg(feature = "config")]
-mod compare_config;
-#[cfg(feature = "config")]
-mod config;
-#[cfg(feature = "config")]
-mod config_inputs;
-#[cfg(feature = "config")]
-mod ffi_config;
-#[cfg(feature = "config")]
-mod record_config;
-
-// What it exports of tasks.
-#[cfg(feature = "tasks")]
-mod compare_booking;
-#[cfg(feature = "tasks")]
+mod compare_lists;
 mod compare_load;
-#[cfg(feature = "tasks")]
-mod compare_tasks;
-#[cfg(feature = "tasks")]
+mod compare_lpsys;
+mod compare_plan;
+mod config_inputs;
+mod config_plans;
+mod ffi;
+mod ffi_change;
+mod ffi_config;
+mod ffi_lpsys;
 mod ffi_tasks;
-#[cfg(feature = "tasks")]
+mod groups;
+mod heads;
+mod lpsys_inputs;
+mod ours;
+mod plans;
+mod progress;
+mod read;
+mod record;
+mod record_change;
+mod record_config;
+mod record_head;
+mod record_lpsys;
+mod record_plan;
 mod record_tasks;
-#[cfg(feature = "tasks")]
-mod task_calls;
-#[cfg(feature = "tasks")]
+mod tally;
 mod task_inputs;
 
-// The guarded change.
-#[cfg(feature = "change")]
-mod change_calls;
-#[cfg(feature = "change")]
-mod change_inputs;
-#[cfg(feature = "change")]
-mod compare_change;
-#[cfg(feature = "change")]
-mod compare_lists;
-#[cfg(feature = "change")]
-mod ffi_change;
-#[cfg(feature = "change")]
-mod record_change;
-
-#[cfg(any(feature = "lpsys-request", feature = "config"))]
-mod ran;
-
 use compare::Extent;
+use sifli::query::Owned;
 use std::env;
 use std::path::Path;
 use std::process::ExitCode;
+use std::time::{SystemTime, UNIX_EPOCH};
 
 const USAGE: &str = "\
-usage: oracle compare [--quick] [--seconds N] [--only PART]..
+usage: oracle compare [--quick] [--count N] [--seconds N] [--seed N|random]
+                      [--only PART].. [--table]
+       oracle query LINE
        oracle record DIR
        oracle bench
 
-compare  the plan check, the readings, the calls of LPSYS and those of
-         clock_config.rs of librikkovan.a against the original, and load check,
-         booking, release and guarded change against document 01; exit status 1 on
-         a difference, or where a clause of demand 3 is broken.
-         --quick: a bounded part. --seconds N: random plans, random heads and
-         random calls of each sort go on for N seconds at least each. --only PART:
-         plan, heads, lpsys, config, tasks or change; may be given several times.
+compare  every call of librikkovan.a against the original code, or against
+         document 01 where that has not the call; exit status 1 on a difference, an
+         answer that never came, or a broken clause of demand 3.
+         --quick: a bounded part. --count N: N queries of each random group.
+         --seconds N: each random group goes on for N seconds at least. --seed: what
+         the random groups are drawn from. --only PART: plan, heads, lpsys, config,
+         tasks or change; may be given several times. --table: only the tables.
+query    one query by both sides. LINE is one that compare printed, or a line of
+         lpsys.txt, config.txt, tasks.txt or change.txt; or plan, clocks or lpsys
+         and the bytes.
 record   writes DIR/plans.txt, DIR/heads.txt, DIR/lpsys.txt, DIR/config.txt,
          DIR/tasks.txt and DIR/change.txt: plans, heads and calls in hex and the
          answers to them.
-bench    nanoseconds per plan check, reading and call of clock_config.rs of both.";
+bench    nanoseconds per call of librikkovan.a, beside the original and the models.";
 
 fn main() -> ExitCode {
     sifli::caught::quiet();
     let arguments: Vec<String> = env::args().skip(1).collect();
     let arguments: Vec<&str> = arguments.iter().map(String::as_str).collect();
     match arguments.as_slice() {
-        ["compare", options @ ..] => compare(options),
+        ["compare", options @ ..] => match extent(options) {
+            Some((extent, only)) => status(compare::run(extent, &only) == 0),
+            None => usage(),
+        },
+        ["query", words @ ..] if !words.is_empty() => query(&words.join(" ")),
         ["record", directory] => record(directory),
         ["bench"] => {
             bench::run();
@@ -111,45 +89,72 @@ fn main() -> ExitCode {
     }
 }
 
-fn compare(options: &[&str]) -> ExitCode {
+/// What is compared, and of which parts; nothing where an option is wrong.
+fn extent<'a>(options: &[&'a str]) -> Option<(Extent, Vec<&'a str>)> {
     let mut extent = Extent::default();
     let mut only = Vec::new();
-    let mut rest = options;
-    loop {
-        rest = match rest {
-            [] => break,
-            ["--quick", rest @ ..] => {
-                extent.quick = true;
-                rest
-            }
-            ["--seconds", number, rest @ ..] => match number.parse() {
-                Ok(number) => {
-                    extent.seconds = number;
-                    rest
-                }
-                Err(_) => return usage(),
-            },
-            ["--only", part, rest @ ..] if compare::PARTS.contains(part) => {
-                only.push(*part);
-                rest
-            }
-            _ => return usage(),
-        };
+    let mut options = options.iter();
+    while let Some(option) = options.next() {
+        match *option {
+            "--quick" => extent.quick = true,
+            "--table" => extent.is_table = true,
+            "--count" => extent.count = Some(options.next()?.parse().ok()?),
+            "--seconds" => extent.seconds = options.next()?.parse().ok()?,
+            "--seed" => extent.seed = seed(options.next()?)?,
+            "--only" => only.push(
+                *options
+                    .next()
+                    .filter(|part| compare::PARTS.contains(part))?,
+            ),
+            _ => return None,
+        }
     }
-    match compare::run(extent, &only) {
-        0 => ExitCode::SUCCESS,
-        _ => ExitCode::FAILURE,
+    Some((extent, only))
+}
+
+/// A number, or one from the clock.
+fn seed(text: &str) -> Option<u64> {
+    match text {
+        "random" => {
+            let now = SystemTime::now().duration_since(UNIX_EPOCH).ok()?;
+            Some(now.as_nanos() as u64)
+        }
+        number => number.parse().ok(),
     }
+}
+
+fn query(line: &str) -> ExitCode {
+    let query = match Owned::parse(line) {
+        Ok(query) => query,
+        Err(error) => return fail(&error),
+    };
+    let (ours, wanted) = (ours::ours(&query.query()), query.query().wanted());
+    println!("wanted   {}", record::answer_text(query.call, &wanted));
+    println!("rikkovan {}", record::answer_text(query.call, &ours));
+    if ours != wanted {
+        println!("wanted where it differs   {}", ours.beside(&wanted));
+        println!("rikkovan where it differs {}", wanted.beside(&ours));
+    }
+    status(ours == wanted)
 }
 
 fn record(directory: &str) -> ExitCode {
     match record::run(Path::new(directory)) {
         Ok(()) => ExitCode::SUCCESS,
-        Err(error) => {
-            eprintln!("oracle: {error}");
-            ExitCode::FAILURE
-        }
+        Err(error) => fail(&error.to_string()),
     }
+}
+
+fn status(is_good: bool) -> ExitCode {
+    match is_good {
+        true => ExitCode::SUCCESS,
+        false => ExitCode::FAILURE,
+    }
+}
+
+fn fail(error: &str) -> ExitCode {
+    eprintln!("oracle: {error}");
+    ExitCode::FAILURE
 }
 
 fn usage() -> ExitCode {

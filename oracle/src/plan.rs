@@ -43,6 +43,13 @@ pub const UNKNOWN: u64 = 99;
 #[derive(Clone, Copy, PartialEq, Eq, Debug)]
 pub struct Plan([u8; LENGTH]);
 
+/// The default plan.
+impl Default for Plan {
+    fn default() -> Self {
+        Self(DEFAULT)
+    }
+}
+
 /// A plan from its slice, or the refusal 1, 2 or 3.
 pub fn decode(slice: &[u8]) -> Result<Plan, u64> {
     let record: [u8; LENGTH] = slice.try_into().map_err(|_| 1u64)?;

@@ -20,6 +20,11 @@ impl Random {
         (((self.word() >> 32) * bound as u64) >> 32) as usize
     }
 
+    /// A number of up to 16 bits, of each length as often.
+    pub fn any_length(&mut self) -> u16 {
+        self.word() as u16 >> self.below(16)
+    }
+
     pub fn byte(&mut self) -> u8 {
         self.below(256) as u8
     }

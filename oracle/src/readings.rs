@@ -38,7 +38,8 @@ pub fn clocks_in_place() -> Clocks {
     rcc::read_hpsys_clocks_from_hw()
 }
 
-fn lpsys_in_place() -> LpsysFrequencies {
+/// The `get_lpsys_..` readings, in place.
+pub fn lpsys_in_place() -> LpsysFrequencies {
     [
         rcc::get_lpsys_sysclk_freq(),
         rcc::get_lpsys_hclk_freq(),

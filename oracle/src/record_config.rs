@@ -1,148 +1,81 @@
 //! Calls of `rcc/clock_config.rs` to record, with the refusals of the oracle's
 //! decoders and what the original code does.
 
-use crate::config::{CALLS, Call, Clocks, Input};
 use crate::config_inputs::{
-    DIFFERENCES, FORMER, HXT48, MODE_STAGES, SEARCH, accepted, answers, around, clocks, dll1_plan,
-    few_cores, few_lists, few_plans, head, plan, refused_plans, search,
+    DIFFERENCES, SEARCH, answers, around, clocks, few_cores, few_lists, head, search,
+};
+use crate::config_plans::{
+    HXT48, MODE_STAGES, accepted, dll1_plan, few_plans, plan, refused_plans,
 };
 use crate::heads::{
     buffer, busy, damaged, few_heads, plain, put_flags, put_register, task, with, with_tasks,
 };
 use crate::plans::default_with;
-use crate::ran::hex_words;
-use crate::record::Lines;
-use crate::tally::hex;
+use crate::record::{CallLines, write_calls};
 use sifli::call::Frequencies;
+use sifli::calls::config;
 use sifli::head::{BUFFER, at};
 use sifli::plan::{DEFAULT, at as field};
+use sifli::query::{Clocks, Query};
 use sifli::random::Random;
-use std::collections::BTreeSet;
 use std::io;
 use std::path::Path;
-
-const FILE: &str = "config.txt";
-
-/// The words of the journal; its length is not in a line.
-const JOURNAL: usize = 128;
 
 /// The most answers in a line.
 const MOST_ANSWERS: usize = 60;
 
-/// Writes the file. Journals that are too short and answers that are too many
-/// are not in it, so 17 and 18 are not either.
 pub fn write(directory: &Path) -> io::Result<()> {
-    let mut lines = Lines::new();
-    let mut refusals = BTreeSet::new();
-    for call in &CALLS {
-        let mut list = List {
-            lines: &mut lines,
-            call,
-            answers: BTreeSet::new(),
-        };
-        clocks_and_plans(&mut list);
-        supply_modes(&mut list);
-        measurements(&mut list);
-        dlls_and_selects(&mut list);
-        cut(&mut list);
-        refused(&mut list);
-        random(&mut list);
-        list.complete()?;
-        refusals.extend(call.refusals);
-    }
-    let refusals: Vec<usize> = refusals.into_iter().filter(|r| recorded(r)).collect();
-    lines.write(directory, FILE, &refusals, 1)
+    write_calls(directory, "config.txt", config(), |list| {
+        clocks_and_plans(list);
+        supply_modes(list);
+        measurements(list);
+        dlls_and_selects(list);
+        cut(list);
+        refused(list);
+        random(list);
+    })
 }
 
-fn recorded(refusal: &usize) -> bool {
-    !matches!(refusal, 17 | 18)
-}
-
-/// The lines of one call.
-struct List<'a> {
-    lines: &'a mut Lines,
-    call: &'static Call,
-    /// The refusals and values that came.
-    answers: BTreeSet<(u64, u64)>,
-}
-
-impl List<'_> {
-    fn add(&mut self, head: &[u8], plan: &[u8], answers: &[u16]) {
-        self.add_former(head, plan, FORMER, answers);
-    }
-
-    fn add_former(&mut self, head: &[u8], plan: &[u8], clocks: Frequencies, answers: &[u16]) {
-        let call = self.call;
-        let input = Input {
-            call,
-            plan,
-            clocks,
-            head,
-            journal: JOURNAL,
-            answers,
-        };
-        let ran = input.original();
-        let mut text = format!(
-            "{} {} {} {} {} {}",
-            ran.refusal(),
-            ran.value(),
-            ran.entries().len(),
-            ran.taken(),
-            hex_words(ran.entries(), 8),
-            hex(ran.head()),
-        );
-        if call.is_lent_plan() {
-            text.push(' ');
-            text.push_str(&hex_words(ran.clocks(), 8));
-        }
-        self.answers.insert((ran.refusal(), ran.value()));
-        self.lines.add(input.to_string(), (ran.refusal(), text));
-    }
-
-    /// All refusals of the call are there, and the values of a done `init`.
-    fn complete(&self) -> io::Result<()> {
-        let mut wanted: Vec<(u64, u64)> = Vec::new();
-        let refusals = self.call.refusals.iter().filter(|r| recorded(r));
-        wanted.extend(refusals.map(|&refusal| (refusal as u64, 0)));
-        if self.call.clocks == Clocks::Written {
-            wanted.extend([(0, 31), (0, 33)]);
-        }
-        match wanted.iter().find(|answer| !self.answers.contains(answer)) {
-            None => Ok(()),
-            Some((refusal, value)) => {
-                let name = self.call.name;
-                let text = format!("{FILE}: no {name} answers {refusal} with {value}");
-                Err(io::Error::other(text))
-            }
-        }
-    }
+fn add_former(
+    list: &mut CallLines,
+    head: &[u8],
+    plan: &[u8],
+    clocks: Frequencies,
+    answers: &[u16],
+) {
+    list.add(&Query {
+        plan,
+        clocks,
+        answers,
+        ..Query::on(list.call, head)
+    });
 }
 
 /// Heads that go each way, with each of some plans, all ready; and after standby.
-fn clocks_and_plans(list: &mut List) {
+fn clocks_and_plans(list: &mut CallLines) {
     let [ready, ..] = few_lists();
     let plans = few_plans();
     let plans = match list.call.clocks {
-        Clocks::None => &plans[..1],
         Clocks::Written => &plans[..],
         Clocks::Former => &plans[1..5],
+        _ => &plans[..1],
     };
     for head in few_cores() {
         for plan in plans {
-            list.add(&head, plan, &ready);
+            list.planned(&head, plan, &ready);
         }
     }
     for (head, mode) in few_cores().into_iter().zip([3, 3, 2, 4, 3]) {
-        list.add(&with(head, &[(at::BOOT_MODE, mode)]), &DEFAULT, &ready);
+        list.planned(&with(head, &[(at::BOOT_MODE, mode)]), &DEFAULT, &ready);
     }
     for head in few_heads() {
-        list.add(&head, &DEFAULT, &ready);
+        list.planned(&head, &DEFAULT, &ready);
     }
 }
 
 /// Every pair of supply modes with the core on DLL1, and a core that is too fast.
-fn supply_modes(list: &mut List) {
-    if !list.call.is_lent_plan() {
+fn supply_modes(list: &mut CallLines) {
+    if !list.call.is_lent_plan {
         return;
     }
     for present in MODE_STAGES {
@@ -150,45 +83,45 @@ fn supply_modes(list: &mut List) {
         put_register(&mut head, 2, [1, 0, 0]);
         put_register(&mut head, 3, [1, 0, present]);
         for target in &MODE_STAGES[..4] {
-            list.add(&head, &dll1_plan(*target), &[0, 1]);
+            list.planned(&head, &dll1_plan(*target), &[0, 1]);
         }
-        list.add(&head, &HXT48, &[]);
+        list.planned(&head, &HXT48, &[]);
     }
 }
 
 /// Searches with each last difference, those of `init` fewer.
-fn measurements(list: &mut List) {
+fn measurements(list: &mut CallLines) {
     let (lengths, lasts): (&[usize], &[u16]) = match list.call.clocks {
-        Clocks::None => (&[1, 2, 6, 10, SEARCH], &DIFFERENCES),
         Clocks::Written => (&[1, SEARCH], &[63, 64, 160, 161]),
         Clocks::Former => return,
+        _ => (&[1, 2, 6, 10, SEARCH], &DIFFERENCES),
     };
     let head = buffer(&plain(), 0);
     for &length in lengths {
         for &last in lasts.iter().filter(|&&last| length == SEARCH || last < 64) {
             for larger in [0, !0, 0x555] {
                 let answers = around(&head, &search(length, last, larger));
-                list.add(&head, &DEFAULT, &answers);
+                list.planned(&head, &DEFAULT, &answers);
             }
         }
     }
     for counts in [[0, u16::MAX], [u16::MAX, 0], [0, 0], [u16::MAX; 2]] {
         let answers = [2, counts[0], counts[1]].repeat(SEARCH);
-        list.add(&head, &DEFAULT, &around(&head, &answers));
+        list.planned(&head, &DEFAULT, &around(&head, &answers));
     }
 }
 
 /// DLL2 as the plan has it, nearly so and off; pairs of flash selects and of hpbg
 /// flags.
-fn dlls_and_selects(list: &mut List) {
-    if !list.call.is_lent_plan() {
+fn dlls_and_selects(list: &mut CallLines) {
+    if !list.call.is_lent_plan {
         return;
     }
     let plan = default_with(&[(field::CALIBRATE, 0)]);
     for dll2 in [[1, 0, 11], [1, 1, 11], [1, 0, 10], [0, 0, 11]] {
         let mut head = buffer(&busy(), 0);
         put_register(&mut head, 4, dll2);
-        list.add(&head, &plan, &[1, 1]);
+        list.planned(&head, &plan, &[1, 1]);
     }
     if list.call.clocks == Clocks::Former {
         return;
@@ -197,30 +130,30 @@ fn dlls_and_selects(list: &mut List) {
         let mut head = buffer(&plain(), 0);
         put_register(&mut head, 5, [0, selects / 4, selects % 4]);
         put_register(&mut head, 11, [0, selects % 2, selects / 2 % 2]);
-        list.add(&head, &plan, &[1, 1]);
+        list.planned(&head, &plan, &[1, 1]);
     }
 }
 
 /// A list that is just enough, cut at every length.
-fn cut(list: &mut List) {
+fn cut(list: &mut CallLines) {
     let mut head = buffer(&plain(), 0);
     if list.call.clocks != Clocks::None {
         put_flags(&mut head, 2);
     }
     let measured = [0, 1, 900, 1000, 3, 1000, 1000];
     let answers = match list.call.clocks {
-        Clocks::None => measured.to_vec(),
         Clocks::Written => [&[0, 1], &measured[..], &[1, 0, 1]].concat(),
         Clocks::Former => vec![0, 0, 1],
+        _ => measured.to_vec(),
     };
     for length in 0..=answers.len() {
-        list.add(&head, &DEFAULT, &answers[..length]);
+        list.planned(&head, &DEFAULT, &answers[..length]);
     }
-    list.add(&head, &DEFAULT, &[0; MOST_ANSWERS]);
+    list.planned(&head, &DEFAULT, &[0; MOST_ANSWERS]);
 }
 
 /// The head's refusals, the plan's, and both at once; clocks that are none.
-fn refused(list: &mut List) {
+fn refused(list: &mut CallLines) {
     let [ready, ..] = few_lists();
     let good = buffer(&with_tasks(busy(), 2), 0);
     let faults: [&[(usize, u8)]; 4] = [
@@ -229,23 +162,23 @@ fn refused(list: &mut List) {
         &[(at::c(34), 1), (at::a(34), 1)],
         &[(task(1), 1)],
     ];
-    list.add(&good[..BUFFER - 1], &DEFAULT, &ready);
+    list.planned(&good[..BUFFER - 1], &DEFAULT, &ready);
     for changes in faults {
-        list.add(&with(good, changes), &DEFAULT, &ready);
+        list.planned(&with(good, changes), &DEFAULT, &ready);
     }
-    if !list.call.is_lent_plan() {
+    if !list.call.is_lent_plan {
         return;
     }
     for plan in refused_plans() {
-        list.add(&good, &plan, &ready);
+        list.planned(&good, &plan, &ready);
     }
-    list.add(&with(good, faults[1]), &DEFAULT[..3], &ready);
-    list.add(&with(good, faults[3]), &DEFAULT[..3], &ready);
-    list.add_former(&good, &DEFAULT, [0; 15], &ready);
-    list.add_former(&good, &DEFAULT, [u32::MAX; 15], &[]);
+    list.planned(&with(good, faults[1]), &DEFAULT[..3], &ready);
+    list.planned(&with(good, faults[3]), &DEFAULT[..3], &ready);
+    add_former(list, &good, &DEFAULT, [0; 15], &ready);
+    add_former(list, &good, &DEFAULT, [u32::MAX; 15], &[]);
 }
 
-fn random(list: &mut List) {
+fn random(list: &mut CallLines) {
     let mut random = Random::new(0xA118);
     let accepted = accepted(&mut random, 100);
     for index in 0..10 {
@@ -257,6 +190,6 @@ fn random(list: &mut List) {
         let is_measuring = list.call.clocks != Clocks::Former;
         let mut answers = answers(&mut random, &head, is_measuring);
         answers.truncate(MOST_ANSWERS);
-        list.add_former(&head, &plan, clocks(&mut random), &answers);
+        add_former(list, &head, &plan, clocks(&mut random), &answers);
     }
 }

@@ -5,8 +5,8 @@ use crate::heads::{
     Buffer, DIVIDERS, LONGEST, buffer, busy, damaged, dlls, garbage, likely, plain, put_cycles,
     put_flags, put_length, put_period, put_register, task, with, with_tasks,
 };
-use crate::lent::Read;
 use crate::plans::STAGES;
+use crate::read::Read;
 use crate::record::List;
 use sifli::head::{BUFFER, Head, LARGEST, LONGEST_PERIOD, MOST_TASKS, TASK, at};
 use sifli::random::Random;

@@ -23,15 +23,20 @@ macro_rules! const_rcc_assert {
 extern crate self as critical_section;
 
 pub mod call;
+pub mod calls;
 pub mod caught;
 pub mod change;
 pub mod claim;
 pub mod head;
+pub mod hex;
+pub mod lent;
 pub mod pac;
 pub mod plan;
+pub mod query;
 pub mod random;
 pub mod rcc;
 pub mod readings;
+pub mod shrink;
 pub mod tasks;
 pub mod world;
 

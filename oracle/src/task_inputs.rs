@@ -3,6 +3,7 @@
 
 use crate::heads::{Buffer, buffer, likely, plain, put_register, with};
 use sifli::head::{BUFFER, Head, LONGEST_PERIOD, MOST_TASKS, TASK, Task, at, decode};
+use sifli::query::{Id, Query, call};
 use sifli::random::Random;
 use sifli::{readings, tasks};
 
@@ -30,6 +31,26 @@ const PERIODS: [u32; 12] = [
 
 /// Steps by which the first 16 ids, from any id on, are all different.
 const STEPS: [usize; 6] = [1, 2, 7, 127, 128, 254];
+
+/// A booking, or a release of an id.
+#[derive(Clone, Copy)]
+pub enum Order {
+    Book(Task),
+    Release(u8),
+}
+
+impl Order {
+    pub fn on(self, buffer: &[u8]) -> Query<'_> {
+        let (id, arguments) = match self {
+            Self::Book(task) => (Id::Book, [task.id.into(), task.cycles, task.period_us]),
+            Self::Release(id) => (Id::Release, [id.into(), 0, 0]),
+        };
+        Query {
+            arguments,
+            ..Query::on(call(id), buffer)
+        }
+    }
+}
 
 /// Cycles at their limits, and around powers of two and of ten.
 pub fn all_cycles() -> Vec<u32> {

@@ -9,6 +9,7 @@ mod readings;
 mod reconfigure;
 mod record;
 mod replay;
+mod shrink;
 mod tasks;
 
 use crate::head::Head;
@@ -25,14 +26,7 @@ fn at_240_mhz() -> Head {
 
 /// A head with all oscillators ready and the core at 48 MHz from HXT48.
 fn at_48_mhz() -> Head {
-    let mut head = Head {
-        hxt48_ready: true,
-        hrc48_ready: true,
-        lpsys_hxt48_ready: true,
-        ..Head::default()
-    };
-    head.registers[1] = 1;
-    head
+    Head::plain()
 }
 
 /// A head whose HCLK does not read: the core is on DBL96.

@@ -4,6 +4,7 @@
 use crate::head::{Head, Registers};
 use std::any::Any;
 use std::cell::RefCell;
+use std::mem::take;
 use std::panic::resume_unwind;
 
 /// Journal number of a delay.
@@ -59,6 +60,26 @@ pub fn begin(head: Head, answers: &[u16]) {
         head,
         answers: answers.to_vec(),
         ..World::default()
+    });
+}
+
+/// The same in the world of the last call, whose memory is used again.
+pub fn restart(head: &Head, answers: &[u16]) {
+    WORLD.with_borrow_mut(|world| {
+        let mut former = take(world);
+        former.head.tasks.clone_from(&head.tasks);
+        former.journal.clear();
+        former.answers.clear();
+        former.answers.extend_from_slice(answers);
+        *world = World {
+            head: Head {
+                tasks: former.head.tasks,
+                ..*head
+            },
+            journal: former.journal,
+            answers: former.answers,
+            ..World::default()
+        };
     });
 }
 
