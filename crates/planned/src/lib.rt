@@ -35,7 +35,7 @@ pub fn admit(bytes: &[u8]) -> Planned
 {
     match plan::decode(bytes) {
         Decoded::Unread(refusal) => none(refusal),
-        Decoded::Read(plan) => match verdict::check_plan(plan) {
+        Decoded::Read(plan) => match verdict::check_legal(plan) {
             Verdict::Refused(refusal) => none(refusal),
             Verdict::Accepted(target) => Planned {
                 refusal: 0,

@@ -26,7 +26,7 @@ pub fn check_plan(p: Plan) -> Verdict
 }
 
 // The same of a plan whose fields lie within their codes, as those of a decoded plan do.
-fn check_legal(p: Plan) -> Verdict
+pub fn check_legal(p: Plan) -> Verdict
     requires { ⌜ legal p ≡ true ⌝ }
     ensures { λ r. ⌜ r ≡ verdictOf p ⌝ }
 {

@@ -1,5 +1,6 @@
 -- `planned::admit` meets its contract: the bytes are decoded, then judged. Assumes nothing.
 use mathlib.Core.Path.{sym, _∙_}
+use Rattle.plan.proofs.RoundTrip.{read-legal}
 use Rattle.planned.proofs.Plans.{plans-unread, plans-refused, plans-accepted}
 use borrow.Author.Needs.{needs}
 use Rattle.planned.proofs.admit.Statement.{statement}
@@ -17,8 +18,8 @@ none-requires c κs = search needs
 enum-known-plan : tie.Need-enum-known-plan
 enum-known-plan c = search needs
 
-check-plan-requires : tie.Need-check-plan-requires
-check-plan-requires c κs = search needs
+check-legal-requires : tie.Need-check-legal-requires
+check-legal-requires c κs = read-legal _ _ (sym (c .before .before .before .decode .ensures) ∙ c .before .plan .given .1)
 
 enum-known-refusal-2 : tie.Need-enum-known-refusal-2
 enum-known-refusal-2 c = search needs
@@ -33,10 +34,10 @@ returns : tie.Need-returns
 returns c = plans-unread _ _ _ (sym (c .before .before .before .before .decode .ensures) ∙ c .before .before .refusal .given .1) (c .none .ensures)
 
 returns-2 : tie.Need-returns-2
-returns-2 c = plans-refused _ _ _ _ (sym (c .before .before .before .before .before .before .before .before .decode .ensures) ∙ c .before .before .before .before .before .before .plan .given .1) (sym (c .before .before .before .before .check-plan .ensures) ∙ c .before .before .refusal2 .given .1) (c .none2 .ensures)
+returns-2 c = plans-refused _ _ _ _ (sym (c .before .before .before .before .before .before .before .before .decode .ensures) ∙ c .before .before .before .before .before .before .plan .given .1) (sym (c .before .before .before .before .check-legal .ensures) ∙ c .before .before .refusal2 .given .1) (c .none2 .ensures)
 
 returns-3 : tie.Need-returns-3
-returns-3 c = plans-accepted _ _ _ (sym (c .before .before .before .before .before .before .before .decode .ensures) ∙ c .before .before .before .before .before .plan .given .1) (sym (c .before .before .before .check-plan .ensures) ∙ c .before .target .given .1)
+returns-3 c = plans-accepted _ _ _ (sym (c .before .before .before .before .before .before .before .decode .ensures) ∙ c .before .before .before .before .before .plan .given .1) (sym (c .before .before .before .check-legal .ensures) ∙ c .before .target .given .1)
 
 pub admit-spec : {M : Type 1} → statement M
 admit-spec =
@@ -46,7 +47,7 @@ admit-spec =
     enum-known-refusal
     none-requires
     enum-known-plan
-    check-plan-requires
+    check-legal-requires
     enum-known-refusal-2
     none-requires-2
     enum-known-target
