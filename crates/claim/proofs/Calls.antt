@@ -9,6 +9,7 @@ use lib.ListN.{length}
 use borrow.Author.Tests.{eqb-true, eqb-false, eq-eqb, ne-eqb, ltb-false, leb-true}
 use Rattle.time.specs.declared.Hertz.{Hertz}
 use Rattle.record.specs.Bytes.{Bytes}
+use Rattle.record.proofs.Bytes.{or-left, or-right}
 use Rattle.record.specs.Refusals.{refuse, firstOf}
 use Rattle.record.proofs.Refusals.{none-at, not-refused, not-refused-unless, only-test, first-passes, first-append}
 use Rattle.plan.specs.declared.Plan.{Plan}
@@ -80,14 +81,6 @@ module _ (b : List ℕ) (fit : FitHead b) (ts : List Task) (holds : booked (head
   in-range f j e =
       let out = not-refused 14 (outOfRange f) (none-at (journalTests b j ++ requestTests f) e 2) in
       (omega (arith, eqb-false f 0 (or-left (eqb f 0) (ltb 48 f) out)), ltb-false 48 f (or-right (eqb f 0) (ltb 48 f) out))
-    where
-      or-left : (x y : Bool) → (x || y) ≡ false → x ≡ false
-      or-left true y e = e
-      or-left false y e = refl
-
-      or-right : (x y : Bool) → (x || y) ≡ false → y ≡ false
-      or-right true y e = absurd (false≢true (sym e))
-      or-right false y e = e
 
   pub requests : (f : ℕ) (j : List ℕ) → Fine b (requesting f j) (lpsysRequest f b j) ts
   unfolding lpsysRequest

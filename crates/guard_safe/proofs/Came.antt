@@ -17,10 +17,9 @@ use Rattle.head.proofs.Stores.{store-encodable}
 use Rattle.clock_read.specs.Hpsys.{hertz, sysOf, hclkOf}
 use Rattle.journal.specs.Run.{Run, Effect, going, headed, store, delayed, delay, Poll, hit, dry, poll, entry, wrote, waited, wait}
 use Rattle.journal.proofs.Reached.{going-on, going-ended}
-use Rattle.journal.proofs.Moments.{Moments, moments-store, moments-delay}
+use Rattle.journal.proofs.Moments.{Moments, moments-store, moments-delay, moments-wait}
 use Rattle.guard_safe.specs.Moment.{headWith, SafeAt, takenOf}
 use Rattle.guard_safe.proofs.View.{Regs, view, put, view-set, Fit, fit-safe}
-use Rattle.guard_safe.proofs.Waits.{moments-wait}
 
 module _ (h : Head) where
   -- a run of a call on the head `h`: every moment is fit, only registers are changed, and the head has a record

@@ -1,7 +1,6 @@
 pub mod Rails
 pub mod Clean
 pub mod View
-pub mod Waits
 pub mod Came
 pub mod Supply
 pub mod Core

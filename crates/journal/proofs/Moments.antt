@@ -1,19 +1,19 @@
 -- What holds at every moment of a run: before its first entry and after each one. Assumes nothing.
-use Prim.Native.Nat.{ℕ, _+_, _≤_, _<_}
+use Prim.Native.Nat.{ℕ, _+_, _*_, _≤_, _<_}
 use mathlib.Core.Path.{_≡_, refl, ap, sym, _∙_, subst}
 use mathlib.Core.Bool.{Bool, true, false, cond}
 use mathlib.Core.List.{List, [], _∷_, _++_}
 use native.Mathlib.Omega.{arith}
 use native.Mathlib.Decide.{decLe}
 use lib.Dec.{eqb}
-use lib.ListN.{length, take, set, length-append}
+use lib.ListN.{length, take, drop, set, length-append}
 use lib.Seq.{take-all, take-append-le}
 use Rattle.time.specs.declared.Reading.{Reading}
 use Rattle.time.specs.declared.Reading.the-variants.{At, Unreadable}
 use Rattle.clock_read.specs.Hpsys.{hclkOf}
 use Rattle.head.specs.declared.Head.{Head}
-use Rattle.journal.specs.Run.{Run, Effect, begin, going, entry, wrote, headed, store, cycles, delayed, delay, replayed}
-use Rattle.journal.proofs.Replay.{Replayed, replays-store, replays-delay}
+use Rattle.journal.specs.Run.{Run, Effect, begin, going, entry, wrote, headed, store, cycles, delayed, delay, Poll, hit, dry, poll, waited, wait, replayed}
+use Rattle.journal.proofs.Replay.{Replayed, replays-store, replays-delay, replays-wait}
 
 -- `P` holds of the registers at each moment of the run `r` of a call that got the registers `l`, and the last are the run's
 pub record Moments (P : List ℕ → Type 0) (l : List ℕ) (r : Run) : Type 0 where
@@ -79,3 +79,26 @@ module _ (P : List ℕ → Type 0) (l : List ℕ) where
       by : (t : Bool) → eqb (r .stop) 0 ≡ t → Moments P l (cond t (delayed (hclkOf (r .head)) us r) r)
       by true e = paused (hclkOf (r .head)) refl (rw e at (replays-delay us .keeps l r (m .last)))
       by false e = m
+
+  -- a wait stores nothing
+  pub moments-wait : (kind : ℕ) (a : List ℕ) (r : Run) → Moments P l r → Moments P l (wait kind a r)
+  unfolding wait going
+  moments-wait kind a r m = by (eqb (r .stop) 0) refl
+    where
+      found : (q : Poll) → Replayed l (waited kind a q r) → Moments P l (waited kind a q r)
+      found (hit n) after = record {
+        each = more-each (r .entries) (entry 49 (kind * 65536 + n)) (m .each) (subst P (sym (after .registers)) (moments-now r m));
+        last = after;
+      }
+      found dry after = record { each = m .each; last = after }
+
+      by : (t : Bool) → eqb (r .stop) 0 ≡ t → Moments P l (cond t (waited kind a (poll (drop (r .taken) a)) r) r)
+      by true e = found (poll (drop (r .taken) a)) (rw e at (replays-wait kind a .keeps l r (m .last)))
+      by false e = m
+
+-- of a property that follows from another, and of two together
+pub moments-map : (P Q : List ℕ → Type 0) (l : List ℕ) (r : Run) → ((regs : List ℕ) → P regs → Q regs) → Moments P l r → Moments Q l r
+moments-map P Q l r f m = record { each = λ k. f _ (m .each k); last = m .last }
+
+pub moments-both : (P Q : List ℕ → Type 0) (l : List ℕ) (r : Run) → Moments P l r → Moments Q l r → Moments (λ (regs : List ℕ). P regs × Q regs) l r
+moments-both P Q l r m n = record { each = λ k. (m .each k, n .each k); last = m .last }

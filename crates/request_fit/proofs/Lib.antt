@@ -1,4 +1,3 @@
-pub mod Algebra
 pub mod Coded
 pub mod Still
 pub mod Requests

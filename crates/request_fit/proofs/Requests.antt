@@ -20,14 +20,13 @@ use Rattle.clock_read.specs.Hpsys.{reg, hertz, readyReading, dividedReading, sy
 use Rattle.clock_read.proofs.Codes.{byte-most}
 use Rattle.lpsys_read.specs.Lpsys.{sourceReading, lpsysSysOf, lpsysHclkOf}
 use Rattle.journal.specs.Run.{Run, begin}
-use Rattle.journal.proofs.Moments.{Moments}
+use Rattle.journal.proofs.Moments.{Moments, moments-map, moments-both}
 use Rattle.rail.specs.Rail.{railLimit}
 use Rattle.fit.specs.Fit.{within, lit, lpsysFit, fits}
 use Rattle.lpsys_request.specs.Request.{request}
 use Rattle.lpsys_request.specs.Safe.{lpsysHz, LpsysSafe}
 use Rattle.lpsys_request.proofs.Safe.{Kept, request-safe}
 use Rattle.guard_safe.specs.Moment.{headWith, SafeAt}
-use Rattle.request_fit.proofs.Algebra.{moments-map, moments-both}
 use Rattle.request_fit.proofs.Coded.{Coded, Codes}
 use Rattle.request_fit.proofs.Still.{Same, Still, request-still}
 

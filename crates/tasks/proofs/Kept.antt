@@ -8,7 +8,7 @@ use borrow.Author.Tests.{eqb-true, eqb-false, ne-eqb}
 use lib.Dec.{eqb}
 use lib.ListN.{length, getD, length-append}
 use lib.Seq.{getD-take}
-use Rattle.record.proofs.Bytes.{and-left, and-right}
+use Rattle.record.proofs.Bytes.{and-left, and-right, or-left, or-right}
 use Rattle.task.specs.declared.Task.{Task}
 use Rattle.task.specs.Task.{noTask, taskOk, allOk, hasId, distinct, InBytes}
 use Rattle.head.specs.declared.Head.{Head}
@@ -16,14 +16,6 @@ use Rattle.head.specs.Head.{booked}
 use Rattle.head.specs.Encodable.{Encodable}
 use Rattle.tasks.specs.Tasks.{without, withTask, withoutTask}
 use Rattle.tasks.proofs.Holding.{booked-length, holding-encodable, less-count}
-
-or-left : (a b : Bool) → (a || b) ≡ false → a ≡ false
-or-left true b e = e
-or-left false b e = refl
-
-or-right : (a b : Bool) → (a || b) ≡ false → b ≡ false
-or-right true b e = absurd (false≢true (sym e))
-or-right false b e = e
 
 not-first : (a b : Bool) → (not a && b) ≡ true → a ≡ false
 not-first true b e = absurd (false≢true e)
