@@ -25,7 +25,7 @@ PLANS = $(sort $(wildcard examples/plans/*.plan))
 TASKS = $(sort $(wildcard examples/tasks/*.tasks))
 
 .DELETE_ON_ERROR:
-.PHONY: help lib run test test-c test-oracle oracle oracle-library compare compare-quick compare-plans compare-heads evidence record bench plans tasks heads install clean
+.PHONY: help lib run test test-c test-oracle oracle compare compare-quick compare-plans compare-heads evidence record bench plans tasks heads install clean
 
 help:
 	@echo 'make run            prove the library, then check the example plans and tasks through it'
@@ -66,9 +66,6 @@ test:
 
 test-c: build/daemon
 	@CC='$(CC)' CXX='$(CXX)' tests/c/run.sh
-
-oracle-library:
-	cargo build $(WITH_ORACLE) --lib
 
 test-oracle:
 	cargo test $(WITH_ORACLE) --lib

@@ -53,17 +53,19 @@ sources=${SIFLI_SRC:-../shared/docs/src}
 
 can_compare() { [ -d "$sources/sifli-hal/src" ] && command -v cargo >/dev/null; }
 
-# The archive, and beside it the part of the oracle that does not link it.
+# The archive, and beside it the tests of the oracle, which do not link it.
 library() {
+    local tests=
     if can_compare; then
-        part oracle-library &
+        part test-oracle &
+        tests=$!
     fi
-    part lib && wait
+    part lib || return
+    [ -z "$tests" ] || wait "$tests"
 }
 
 compare() {
     if can_compare; then
-        stage 'tests of the oracle' part test-oracle
         stage 'comparison with the Rust' part compare-quick
     elif [ ! -d "$sources/sifli-hal/src" ]; then
         say "comparison with the Rust skipped: no sources at $sources (SIFLI_SRC names their folder)"
@@ -80,7 +82,7 @@ need "${CXX:-g++}" 'to test the header from C++'
 
 stage 'list of crates' every_crate_is_listed
 stage 'rt ci' rt_ci
-stage 'library' library
+stage 'library, and tests of the oracle' library
 stage 'tests from C' part test-c
 stage 'tests of lpset' tests/lpset/run.sh
 stage 'tests of moments' tests/moments/run.sh
