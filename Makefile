@@ -30,7 +30,7 @@ PLANS = $(sort $(wildcard examples/plans/*.plan))
 TASKS = $(sort $(wildcard examples/tasks/*.tasks))
 
 .DELETE_ON_ERROR:
-.PHONY: help lib run test test-c test-rust test-fuzz fuzz test-oracle oracle oracle-library compare compare-quick compare-plans compare-heads evidence record bench plans tasks heads install uninstall clean
+.PHONY: help lib run test test-c test-rust test-fuzz fuzz test-oracle oracle compare compare-quick compare-plans compare-heads evidence record bench plans tasks heads install uninstall clean
 
 help:
 	@echo 'make run            prove the library, then check the example plans and tasks through it'
@@ -91,9 +91,6 @@ fuzz: build/fuzz
 
 test-fuzz: $(LIBRARY)
 	@CC='$(CC)' tests/fuzz/run.sh
-
-oracle-library:
-	cargo build $(WITH_ORACLE) --lib
 
 test-oracle:
 	cargo test $(WITH_ORACLE) --lib

@@ -71,12 +71,15 @@ has_cargo() { command -v cargo >/dev/null; }
 
 can_compare() { [ -d "$sources/sifli-hal/src" ] && has_cargo; }
 
-# The archive, and beside it the part of the oracle that does not link it.
+# The archive, and beside it the tests of the oracle, which do not link it.
 library() {
+    local tests=
     if can_compare; then
-        part oracle-library &
+        part test-oracle &
+        tests=$!
     fi
-    part lib && wait
+    part lib || return
+    [ -z "$tests" ] || wait "$tests"
 }
 
 test_rust() {
@@ -89,7 +92,6 @@ test_rust() {
 
 compare() {
     if can_compare; then
-        stage 'tests of the oracle' part test-oracle
         stage 'comparison with the Rust' part compare-quick
     elif [ ! -d "$sources/sifli-hal/src" ]; then
         say "comparison with the Rust skipped: no sources at $sources (SIFLI_SRC names their folder)"
@@ -106,7 +108,7 @@ need "${CXX:-g++}" 'to test the header from C++'
 
 stage 'list of crates' every_crate_is_listed
 stage 'rt ci' rt_ci
-stage 'library' library
+stage 'library, and tests of the oracle' library
 stage 'tests from C' part test-c
 test_rust
 stage 'fuzz' part test-fuzz

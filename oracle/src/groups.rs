@@ -158,11 +158,7 @@ fn print_table(title: &str, reports: &[Report], pick: impl Fn(&Report) -> &Tally
 }
 
 pub fn counts(tally: &Tally) -> String {
-    let Tally {
-        compared,
-        different,
-        ..
-    } = tally;
+    let (compared, different) = (grouped(tally.compared), grouped(tally.different));
     format!("{compared} compared, {different} different")
 }
 
