@@ -1,4 +1,4 @@
--- `init_first::start_hxt48` meets its contract: the test picks the case. Assumes nothing.
+-- `init_begin::start_hxt48` meets its contract: the test picks the case. Assumes nothing.
 use mathlib.Core.Bool.{cond}
 use lib.Dec.{eqb}
 use borrow.Author.Tests.{eq-eqb, ne-eqb}
@@ -6,11 +6,11 @@ use Rattle.head.specs.declared.Head.{Head}
 use Rattle.clock_read.specs.Hpsys.{reg}
 use Rattle.journal.specs.Run.{idle, _▸_, store, waitHxt48}
 use Rattle.journal.proofs.Steps.{no-step, both, of-head}
-use Rattle.init_first.specs.First.{startHxt48}
-use Rattle.init_first.proofs.Fits.{hxt48-fits}
+use Rattle.init_begin.specs.Begin.{startHxt48}
+use Rattle.init_begin.proofs.Fits.{hxt48-fits}
 use borrow.Author.Needs.{needs}
-use Rattle.init_first.proofs.start_hxt48.Statement.{statement}
-use Rattle.init_first.proofs.start_hxt48.Tie as tie
+use Rattle.init_begin.proofs.start_hxt48.Statement.{statement}
+use Rattle.init_begin.proofs.start_hxt48.Tie as tie
 
 element-copy-out-select : tie.Need-element-copy-out-select
 element-copy-out-select c = search needs

@@ -1,4 +1,4 @@
--- What `init` stores after the core clock fits its registers. Assumes nothing.
+-- The USB divider and the selects of a legal plan fit their registers. Assumes nothing.
 use Prim.Native.Nat.{ℕ, _≤_}
 use mathlib.Core.Path.{_≡_, subst}
 use mathlib.Core.Bool.{true}
@@ -14,10 +14,6 @@ use Rattle.plan.specs.Plan.{encoded, legal}
 use Rattle.register.specs.Word.{wordOf}
 use Rattle.register.specs.Codes.{largest, codesOf, fitsRegister}
 use Rattle.register.proofs.Fits.{word-fits}
-
-pub flash-fits : (x y : ℕ) → x ≤ 2 → y ≤ 2 → fitsRegister 5 (wordOf 0 x y) ≡ true
-unfolding isWithin largest
-flash-fits x y p q = word-fits 5 0 x y (simp (le-leb x 3 (omega (arith, p)), le-leb y 3 (omega (arith, q))))
 
 -- a value without a letter stands in the third byte
 value-fits : (n v : ℕ) → isWithin (0 ∷ 0 ∷ v ∷ []) (codesOf n) ≡ true → fitsRegister n v ≡ true

@@ -1,10 +1,10 @@
--- `init_first::init_begin` meets its contract: one step after the other. Assumes nothing.
+-- `init_begin::init_begin` meets its contract: one step after the other. Assumes nothing.
 use Rattle.journal.proofs.Steps.{then-quiet}
-use Rattle.init_first.specs.First.{initBegin}
-use Rattle.init_first.proofs.Fits.{peri-fits}
+use Rattle.init_begin.specs.Begin.{initBegin}
+use Rattle.init_begin.proofs.Fits.{peri-fits}
 use borrow.Author.Needs.{needs}
-use Rattle.init_first.proofs.init_begin.Statement.{statement}
-use Rattle.init_first.proofs.init_begin.Tie as tie
+use Rattle.init_begin.proofs.init_begin.Statement.{statement}
+use Rattle.init_begin.proofs.init_begin.Tie as tie
 
 start-hxt48-requires : tie.Need-start-hxt48-requires
 start-hxt48-requires c κs = search needs

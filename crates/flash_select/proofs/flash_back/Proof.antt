@@ -1,10 +1,10 @@
--- `init_rest::flash_back` meets its contract: each select is set back by itself. Assumes nothing.
+-- `flash_select::flash_back` meets its contract: each select is set back by itself. Assumes nothing.
 use mathlib.Core.Path.{refl}
-use Rattle.init_rest.specs.Rest.{flashBack}
-use Rattle.init_rest.proofs.Fits.{flash-fits}
+use Rattle.flash_select.specs.FlashSelect.{flashBack}
+use Rattle.flash_select.proofs.Fits.{flash-fits}
 use borrow.Author.Needs.{needs}
-use Rattle.init_rest.proofs.flash_back.Statement.{statement}
-use Rattle.init_rest.proofs.flash_back.Tie as tie
+use Rattle.flash_select.proofs.flash_back.Statement.{statement}
+use Rattle.flash_select.proofs.flash_back.Tie as tie
 
 b-requires : tie.Need-b-requires
 b-requires c κs = search needs

@@ -1,9 +1,9 @@
--- `init_rest::back_to` meets its contract: the test picks the case. Assumes nothing.
+-- `flash_select::back_to` meets its contract: the test picks the case. Assumes nothing.
 use native.Mathlib.Omega.{arith}
 use mathlib.Core.Path.{refl}
 use borrow.Author.Tests.{eq-eqb, ne-eqb}
-use Rattle.init_rest.proofs.back_to.Statement.{statement}
-use Rattle.init_rest.proofs.back_to.Tie as tie
+use Rattle.flash_select.proofs.back_to.Statement.{statement}
+use Rattle.flash_select.proofs.back_to.Tie as tie
 
 returns : tie.Need-returns
 returns c = rw (eq-eqb _ _ (c .if1 .taken)) (refl, omega arith)

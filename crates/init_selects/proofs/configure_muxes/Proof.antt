@@ -1,12 +1,12 @@
--- `init_rest::configure_muxes` meets its contract: one store after the other. Assumes nothing.
+-- `init_selects::configure_muxes` meets its contract: one store after the other. Assumes nothing.
 use native.Mathlib.Omega.{arith}
 use Rattle.register.proofs.Fits.{zero-fits}
 use Rattle.journal.proofs.Steps.{both-quiet}
-use Rattle.init_rest.specs.Rest.{plannedMuxes}
-use Rattle.init_rest.proofs.Fits.{peri-fits, wdt-fits}
+use Rattle.init_selects.specs.Selects.{plannedMuxes}
+use Rattle.init_selects.proofs.Fits.{peri-fits, wdt-fits}
 use borrow.Author.Needs.{needs}
-use Rattle.init_rest.proofs.configure_muxes.Statement.{statement}
-use Rattle.init_rest.proofs.configure_muxes.Tie as tie
+use Rattle.init_selects.proofs.configure_muxes.Statement.{statement}
+use Rattle.init_selects.proofs.configure_muxes.Tie as tie
 
 cast-perisel : tie.Need-cast-perisel
 cast-perisel c = search needs

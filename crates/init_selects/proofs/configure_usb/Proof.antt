@@ -1,11 +1,11 @@
--- `init_rest::configure_usb` meets its contract: the flag picks the case. Assumes nothing.
+-- `init_selects::configure_usb` meets its contract: the flag picks the case. Assumes nothing.
 use mathlib.Core.Path.{refl}
 use Rattle.journal.proofs.Steps.{no-step, both-quiet}
-use Rattle.init_rest.specs.Rest.{plannedUsb}
-use Rattle.init_rest.proofs.Fits.{usb-fits, source-fits}
+use Rattle.init_selects.specs.Selects.{plannedUsb}
+use Rattle.init_selects.proofs.Fits.{usb-fits, source-fits}
 use borrow.Author.Needs.{needs}
-use Rattle.init_rest.proofs.configure_usb.Statement.{statement}
-use Rattle.init_rest.proofs.configure_usb.Tie as tie
+use Rattle.init_selects.proofs.configure_usb.Statement.{statement}
+use Rattle.init_selects.proofs.configure_usb.Tie as tie
 
 cast-usbsel : tie.Need-cast-usbsel
 cast-usbsel c = search needs
