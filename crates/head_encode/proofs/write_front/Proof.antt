@@ -1,10 +1,10 @@
--- `head::write_front` meets its contract: three stores in a row. Assumes nothing.
+-- `head_encode::write_front` meets its contract: three stores in a row. Assumes nothing.
 use native.Mathlib.Omega.{arith}
 use Rattle.head.specs.Head.{frontOf}
 use Rattle.record.proofs.Laid.{laid-sets}
 use borrow.Author.Needs.{needs}
-use Rattle.head.proofs.write_front.Statement.{statement}
-use Rattle.head.proofs.write_front.Tie as tie
+use Rattle.head_encode.proofs.write_front.Statement.{statement}
+use Rattle.head_encode.proofs.write_front.Tie as tie
 
 mul-length : tie.Need-mul-length
 mul-length c = search needs

@@ -1,11 +1,11 @@
--- `head::write_state` meets its contract: six stores in a row. Assumes nothing.
+-- `head_encode::write_state` meets its contract: six stores in a row. Assumes nothing.
 use native.Mathlib.Omega.{arith}
 use lib.ListN.{length-set}
 use Rattle.head.specs.Head.{stateOf}
 use Rattle.record.proofs.Laid.{laid-sets}
 use borrow.Author.Needs.{needs}
-use Rattle.head.proofs.write_state.Statement.{statement}
-use Rattle.head.proofs.write_state.Tie as tie
+use Rattle.head_encode.proofs.write_state.Statement.{statement}
+use Rattle.head_encode.proofs.write_state.Tie as tie
 
 flag-requires : tie.Need-flag-requires
 flag-requires c κs = search needs

@@ -1,10 +1,10 @@
--- `head::encode` meets its contract: the four parts of the record, written one after the other. Assumes nothing.
+-- `head_encode::encode` meets its contract: the four parts of the record, written one after the other. Assumes nothing.
 use mathlib.Core.Path.{_∙_}
 use Rattle.head.proofs.Parts.{record-laid}
 use native.Mathlib.Omega.{arith}
 use borrow.Author.Needs.{needs}
-use Rattle.head.proofs.encode.Statement.{statement}
-use Rattle.head.proofs.encode.Tie as tie
+use Rattle.head_encode.proofs.encode.Statement.{statement}
+use Rattle.head_encode.proofs.encode.Tie as tie
 
 write-front-requires : tie.Need-write-front-requires
 write-front-requires c κs = search needs

@@ -1,10 +1,10 @@
--- `plan::code::refusal` meets its contract: the tests passed on the way pick the case of `recordRefusal`. Assumes nothing.
+-- `plan_refusal::refusal` meets its contract: the tests passed on the way pick the case of `recordRefusal`. Assumes nothing.
 use borrow.Author.Tests.{eq-eqb, ne-eqb}
 use Rattle.record.specs.Refusals.{firstOf}
-use Rattle.plan.specs.Plan.{recordRefusal}
+use Rattle.plan_refusal.specs.Refusal.{recordRefusal}
 use borrow.Author.Needs.{needs}
-use Rattle.plan.proofs.code.refusal.Statement.{statement}
-use Rattle.plan.proofs.code.refusal.Tie as tie
+use Rattle.plan_refusal.proofs.refusal.Statement.{statement}
+use Rattle.plan_refusal.proofs.refusal.Tie as tie
 
 returns : tie.Need-returns
 unfolding recordRefusal firstOf
