@@ -1,9 +1,9 @@
--- `clock_read::usb_source` meets its contract. Assumes nothing.
+-- `device_read::usb_source` meets its contract. Assumes nothing.
 use borrow.Author.Tests.{eq-eqb, ne-eqb}
-use Rattle.clock_read.specs.Hpsys.{usbSource}
+use Rattle.device_read.specs.Devices.{usbSource}
 use borrow.Author.Needs.{needs}
-use Rattle.clock_read.proofs.usb_source.Statement.{statement}
-use Rattle.clock_read.proofs.usb_source.Tie as tie
+use Rattle.device_read.proofs.usb_source.Statement.{statement}
+use Rattle.device_read.proofs.usb_source.Tie as tie
 
 element-copy-out-source : tie.Need-element-copy-out-source
 element-copy-out-source c = search needs

@@ -1,7 +1,7 @@
--- `clock_read::get_clk_mpi2_freq` meets its contract. Assumes nothing.
+-- `device_read::get_clk_mpi2_freq` meets its contract. Assumes nothing.
 use borrow.Author.Needs.{needs}
-use Rattle.clock_read.proofs.get_clk_mpi2_freq.Statement.{statement}
-use Rattle.clock_read.proofs.get_clk_mpi2_freq.Tie as tie
+use Rattle.device_read.proofs.get_clk_mpi2_freq.Statement.{statement}
+use Rattle.device_read.proofs.get_clk_mpi2_freq.Tie as tie
 
 element-copy-out-c : tie.Need-element-copy-out-c
 element-copy-out-c c = search needs

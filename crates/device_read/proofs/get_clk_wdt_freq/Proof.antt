@@ -1,9 +1,9 @@
--- `clock_read::get_clk_wdt_freq` meets its contract. Assumes nothing.
+-- `device_read::get_clk_wdt_freq` meets its contract. Assumes nothing.
 use borrow.Author.Tests.{eq-eqb, ne-eqb}
-use Rattle.clock_read.specs.Hpsys.{wdtOf}
+use Rattle.device_read.specs.Devices.{wdtOf}
 use borrow.Author.Needs.{needs}
-use Rattle.clock_read.proofs.get_clk_wdt_freq.Statement.{statement}
-use Rattle.clock_read.proofs.get_clk_wdt_freq.Tie as tie
+use Rattle.device_read.proofs.get_clk_wdt_freq.Statement.{statement}
+use Rattle.device_read.proofs.get_clk_wdt_freq.Tie as tie
 
 element-copy-out-select : tie.Need-element-copy-out-select
 element-copy-out-select c = search needs

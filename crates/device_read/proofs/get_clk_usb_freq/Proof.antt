@@ -1,8 +1,8 @@
--- `clock_read::get_clk_usb_freq` meets its contract. Assumes nothing.
-use Rattle.clock_read.specs.Hpsys.{usbOf}
+-- `device_read::get_clk_usb_freq` meets its contract. Assumes nothing.
+use Rattle.device_read.specs.Devices.{usbOf}
 use borrow.Author.Needs.{needs}
-use Rattle.clock_read.proofs.get_clk_usb_freq.Statement.{statement}
-use Rattle.clock_read.proofs.get_clk_usb_freq.Tie as tie
+use Rattle.device_read.proofs.get_clk_usb_freq.Statement.{statement}
+use Rattle.device_read.proofs.get_clk_usb_freq.Tie as tie
 
 element-copy-out-c : tie.Need-element-copy-out-c
 element-copy-out-c c = search needs

@@ -1,7 +1,7 @@
--- `clock_read::get_clk_mpi1_freq` meets its contract. Assumes nothing.
+-- `device_read::get_clk_mpi1_freq` meets its contract. Assumes nothing.
 use borrow.Author.Needs.{needs}
-use Rattle.clock_read.proofs.get_clk_mpi1_freq.Statement.{statement}
-use Rattle.clock_read.proofs.get_clk_mpi1_freq.Tie as tie
+use Rattle.device_read.proofs.get_clk_mpi1_freq.Statement.{statement}
+use Rattle.device_read.proofs.get_clk_mpi1_freq.Tie as tie
 
 element-copy-out-b : tie.Need-element-copy-out-b
 element-copy-out-b c = search needs

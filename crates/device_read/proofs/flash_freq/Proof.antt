@@ -1,9 +1,9 @@
--- `clock_read::flash_freq` meets its contract. Assumes nothing.
+-- `device_read::flash_freq` meets its contract. Assumes nothing.
 use borrow.Author.Tests.{eq-eqb, ne-eqb}
-use Rattle.clock_read.specs.Hpsys.{flashOf}
+use Rattle.device_read.specs.Devices.{flashOf}
 use borrow.Author.Needs.{needs}
-use Rattle.clock_read.proofs.flash_freq.Statement.{statement}
-use Rattle.clock_read.proofs.flash_freq.Tie as tie
+use Rattle.device_read.proofs.flash_freq.Statement.{statement}
+use Rattle.device_read.proofs.flash_freq.Tie as tie
 
 get-clk-dll1-freq-requires : tie.Need-get-clk-dll1-freq-requires
 get-clk-dll1-freq-requires c κs = search needs
