@@ -1,12 +1,12 @@
--- `task_bytes::put_four` meets its contract: four stores in a row. Assumes nothing.
+-- `four_bytes::put_four` meets its contract: four stores in a row. Assumes nothing.
 use native.Mathlib.Omega.{arith}
 use native.Mathlib.Numerals.{add-one, add-two, add-three}
 use lib.ListN.{length-set}
-use Rattle.task_bytes.specs.Four.{fourBytes}
+use Rattle.four_bytes.specs.Four.{fourBytes}
 use Rattle.record.proofs.Laid.{laid-sets}
 use borrow.Author.Needs.{needs}
-use Rattle.task_bytes.proofs.put_four.Statement.{statement}
-use Rattle.task_bytes.proofs.put_four.Tie as tie
+use Rattle.four_bytes.proofs.put_four.Statement.{statement}
+use Rattle.four_bytes.proofs.put_four.Tie as tie
 
 cast-buffer : tie.Need-cast-buffer
 cast-buffer c = search needs
