@@ -104,7 +104,7 @@ pub fn finish(m: Machine, value: u32, buffer: &mut [u8]) -> Answer
     ensures { λ r. ⌜ Finishes m value r (now (buffer .entry)) (now (buffer .exit)) ⌝ }
 {
     let head = m.head;
-    head::encode(head, buffer);
+    head_encode::encode(head, buffer);
     let stop = m.stop;
     if stop != 0 {
         return Answer {

@@ -20,7 +20,7 @@ use Rattle.register.specs.Codes.{largest}
 use Rattle.register.specs.Registers.{registersIn}
 use Rattle.task.specs.declared.Task.{Task}
 use Rattle.task.specs.Task.{noTask, taskOk, allOk, hasId, distinct}
-use Rattle.task_bytes.specs.Four.{fourIn, fourBytes}
+use Rattle.four_bytes.specs.Four.{fourIn, fourBytes}
 use Rattle.task_bytes.specs.Tasks.{taskIn, taskBytes, tasksIn, tasksFit, placesIn}
 use Rattle.load.specs.Load.{shareOf, loadOf}
 use Rattle.head.specs.declared.Head.{Head}

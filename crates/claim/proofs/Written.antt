@@ -12,7 +12,7 @@ use Rattle.register.specs.Word.{wordBytes}
 use Rattle.register.proofs.Fits.{fits-word}
 use Rattle.task.specs.declared.Task.{Task}
 use Rattle.task.specs.Task.{noTask, InBytes}
-use Rattle.task_bytes.specs.Four.{fourBytes}
+use Rattle.four_bytes.specs.Four.{fourBytes}
 use Rattle.task_bytes.specs.Tasks.{taskBytes}
 use Rattle.task_bytes.proofs.Bytes.{bytes-drop}
 use Rattle.head.specs.declared.Head.{Head}

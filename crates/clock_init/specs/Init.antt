@@ -7,7 +7,8 @@ use Rattle.plan.specs.declared.Plan.{Plan}
 use Rattle.journal.specs.Run.{Run, Effect, idle, _▸_}
 use Rattle.core_clock.specs.CoreClock.{dividers}
 use Rattle.clock_switch.specs.Switch.{toPlan}
-use Rattle.init_first.specs.First.{initBegin, bootStores, calibrating, warning, initFirst}
+use Rattle.init_begin.specs.Begin.{initBegin}
+use Rattle.init_first.specs.First.{bootStores, calibrating, warning, initFirst}
 use Rattle.init_rest.specs.Rest.{initRest}
 
 -- the plan's dividers first, the core clock, then the rest

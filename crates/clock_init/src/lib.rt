@@ -59,7 +59,7 @@ pub fn init(m: Machine, journal: &mut [u32], answers: &[u16], p: Plan, target: T
 {
     let head = m.head;
     let boot_mode = head.boot_mode;
-    let m = init_first::init_begin(m, journal, answers);
+    let m = init_begin::init_begin(m, journal, answers);
     if boot_mode == PM_STANDBY_BOOT {
         return Calibrated {
             machine: m,

@@ -1,7 +1,7 @@
-// rcc/clock_read.rs: frequencies of HPSYS read from a head.
+// rcc/clock_read.rs: frequencies of HPSYS read from a head, up to the core and its buses.
 ghost use mathlib.Core.Path.{_≡_};
 ghost use Prim.Native.Nat.{_≤_};
-ghost use Rattle.register.specs.Word.{byteB, byteC};
+ghost use Rattle.register.specs.Word.{byteC};
 ghost use Rattle.head.specs.Encodable.{Encodable};
 ghost use Rattle.clock_read.specs.Hpsys.{
   reg,
@@ -13,10 +13,6 @@ ghost use Rattle.clock_read.specs.Hpsys.{
   hclkOf,
   pclkOf,
   pclk2Of,
-  usbSource,
-  usbOf,
-  wdtOf,
-  flashOf,
 };
 use clock::Dll;
 use head::Head;
@@ -119,62 +115,4 @@ pub fn get_pclk2_freq(h: Head) -> Reading
 {
     let pdiv2 = head::c(h.regs[2]) as u8;
     prescale(get_hclk_freq(h), pdiv2)
-}
-
-fn usb_source(h: Head) -> Reading
-    requires { ⌜ Encodable h ⌝ }
-    ensures { λ r. ⌜ r ≡ usbSource h ⌝ }
-{
-    let source = h.regs[7];
-    if source == 1 {
-        return get_clk_dll2_freq(h);
-    }
-    get_clk_sys_freq(h)
-}
-
-pub fn get_clk_usb_freq(h: Head) -> Reading
-    requires { ⌜ Encodable h ⌝ }
-    ensures { λ r. ⌜ r ≡ usbOf h ⌝ }
-{
-    let divider = head::c(h.regs[8]) as u8;
-    divide(usb_source(h), divider)
-}
-
-pub fn get_clk_wdt_freq(h: Head) -> Reading
-    ensures { λ r. ⌜ r ≡ wdtOf h ⌝ }
-{
-    let select = h.regs[10];
-    if select == 0 {
-        Reading::At(clock::CLK_LRC10_FREQ)
-    } else {
-        Reading::At(clock::CLK_LRC32_FREQ)
-    }
-}
-
-// A flash clock by its select.
-fn flash_freq(select: u32, h: Head) -> Reading
-    requires { ⌜ Encodable h ⌝ }
-    ensures { λ r. ⌜ r ≡ flashOf select h ⌝ }
-{
-    if select == 1 {
-        return get_clk_dll1_freq(h);
-    }
-    if select == 2 {
-        return get_clk_dll2_freq(h);
-    }
-    Reading::At(clock::CLK_HXT48_FREQ)
-}
-
-pub fn get_clk_mpi1_freq(h: Head) -> Reading
-    requires { ⌜ Encodable h ⌝ }
-    ensures { λ r. ⌜ r ≡ flashOf (byteB (reg h 5)) h ⌝ }
-{
-    flash_freq(head::b(h.regs[5]), h)
-}
-
-pub fn get_clk_mpi2_freq(h: Head) -> Reading
-    requires { ⌜ Encodable h ⌝ }
-    ensures { λ r. ⌜ r ≡ flashOf (byteC (reg h 5)) h ⌝ }
-{
-    flash_freq(head::c(h.regs[5]), h)
 }

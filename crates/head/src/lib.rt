@@ -1,10 +1,9 @@
-// The head record: 34 registers, ready flags and booked tasks, from bytes to a value and back.
+// The head record: 34 registers, ready flags and booked tasks, from bytes to a value.
 ghost use mathlib.Core.Path.{_≡_};
 ghost use Prim.Native.Nat.{_≤_};
 ghost use lib.ListN.{length};
-ghost use Rattle.record.specs.Items.{laid};
 ghost use Rattle.task_bytes.specs.Tasks.{countIn};
-ghost use Rattle.head.specs.Head.{bufferBytes, lengthFits, headRefusal, headOf, blank, bit, frontOf, stateOf, written};
+ghost use Rattle.head.specs.Head.{bufferBytes, lengthFits, headRefusal, headOf, blank};
 ghost use Rattle.head.specs.Encodable.{Decodes};
 pub use register::a;
 pub use register::b;
@@ -122,48 +121,4 @@ pub fn decode(buffer: &[u8]) -> Decoded
     }
     let head = read(buffer);
     Decoded { refusal: 0, head }
-}
-
-// The length and the version.
-fn write_front(count: u8, buffer: &mut [u8])
-    requires { ⌜ (length (now buffer) ≡ bufferBytes) × (count ≤ 16) ⌝ }
-    ensures { λ _. ⌜ now (buffer .exit) ≡ laid 0 (frontOf count) (now (buffer .entry)) ⌝ }
-{
-    let length = 109 + 9 * (count as u16);
-    buffer[0] = (length / 256) as u8;
-    buffer[1] = (length % 256) as u8;
-    buffer[2] = 1;
-}
-
-fn flag(on: bool) -> u8
-    ensures { λ r. ⌜ r ≡ bit on ⌝ }
-{
-    if on { 1 } else { 0 }
-}
-
-// The ready flags, boot mode, wake count and task count.
-fn write_state(head: Head, buffer: &mut [u8])
-    requires { ⌜ length (now buffer) ≡ bufferBytes ⌝ }
-    ensures { λ _. ⌜ now (buffer .exit) ≡ laid 105 (stateOf head) (now (buffer .entry)) ⌝ }
-{
-    buffer[105] = flag(head.hxt48_ready);
-    buffer[106] = flag(head.hrc48_ready);
-    buffer[107] = flag(head.lpsys_hxt48_ready);
-    buffer[108] = head.boot_mode;
-    buffer[109] = head.wake_count;
-    buffer[110] = head.count;
-}
-
-// Writes a head's record at the front of a buffer.
-pub fn encode(head: Head, buffer: &mut [u8])
-    requires { ⌜ (length (now buffer) ≡ bufferBytes) × (head .count ≤ 16) ⌝ }
-    ensures { λ _. ⌜ now (buffer .exit) ≡ written head (now (buffer .entry)) ⌝ }
-{
-    let count = head.count;
-    let regs = head.regs;
-    let tasks = head.tasks;
-    write_front(count, buffer);
-    register::write(regs, buffer);
-    write_state(head, buffer);
-    task_bytes::write(tasks, count, buffer);
 }

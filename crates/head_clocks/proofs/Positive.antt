@@ -15,7 +15,8 @@ use Rattle.head.specs.declared.Head.{Head}
 use Rattle.register.specs.Word.{wordBytes, byteA, byteB, byteC}
 use Rattle.register.specs.Codes.{largest, codesOf}
 use Rattle.head.specs.Encodable.{Encodable}
-use Rattle.clock_read.specs.Hpsys.{reg, hertz, readyReading, dllReading, dividedReading, shiftedReading, sysOf, hclkOf, pclkOf, pclk2Of, usbSource, usbOf, wdtOf, flashOf}
+use Rattle.clock_read.specs.Hpsys.{reg, hertz, readyReading, dllReading, dividedReading, shiftedReading, sysOf, hclkOf, pclkOf, pclk2Of}
+use Rattle.device_read.specs.Devices.{usbSource, usbOf, wdtOf, flashOf}
 use Rattle.lpsys_read.specs.Lpsys.{sourceReading, lpsysSysOf, lpsysHclkOf, lpsysPclk1Of, lpsysPclk2Of, lpsysPeriOf, lpsysMacOf}
 use Rattle.clock_read.proofs.Codes.{byte-most}
 

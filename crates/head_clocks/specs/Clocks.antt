@@ -8,7 +8,8 @@ use Rattle.clock.specs.declared.Clocks.{Clocks}
 use Rattle.head.specs.declared.Head.{Head}
 use Rattle.register.specs.Word.{byteB, byteC}
 use Rattle.head.specs.Head.{headRefusal, headOf}
-use Rattle.clock_read.specs.Hpsys.{reg, dllReading, sysOf, hclkOf, pclkOf, pclk2Of, usbOf, wdtOf, flashOf}
+use Rattle.clock_read.specs.Hpsys.{reg, dllReading, sysOf, hclkOf, pclkOf, pclk2Of}
+use Rattle.device_read.specs.Devices.{usbOf, wdtOf, flashOf}
 use Rattle.lpsys_read.specs.Lpsys.{lpsysSysOf, lpsysHclkOf, lpsysPclk1Of, lpsysPclk2Of, lpsysPeriOf, lpsysMacOf}
 
 -- `read_hpsys_clocks_from_hw`: the 15 frequencies of `Clocks`, 0 for none. The peripheral clock is 48 MHz from either source, its half 24,

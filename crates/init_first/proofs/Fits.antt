@@ -9,17 +9,9 @@ pub sysclk-fits : fitsRegister 1 1 ≡ true
 unfolding fitsRegister isWithin wordBytes largest
 sysclk-fits = refl
 
-pub peri-fits : fitsRegister 6 1 ≡ true
-unfolding fitsRegister isWithin wordBytes largest
-peri-fits = refl
-
 pub low-power-fits : fitsRegister 10 1 ≡ true
 unfolding fitsRegister isWithin wordBytes largest
 low-power-fits = refl
-
-pub hxt48-fits : fitsRegister 22 1 ≡ true
-unfolding fitsRegister isWithin wordBytes largest
-hxt48-fits = refl
 
 pub lrc32-fits : fitsRegister 23 1 ≡ true
 unfolding fitsRegister isWithin wordBytes largest

@@ -1,4 +1,4 @@
--- What `init` of rcc/clock_config.rs does before it sets the core clock. Assumes nothing.
+-- What `init` of rcc/clock_config.rs does before it sets the core clock, on all but a standby boot. Assumes nothing.
 use Prim.Native.Nat.{ℕ}
 use mathlib.Core.Path.{_≡_}
 use mathlib.Core.Bool.{Bool, cond, _||_}
@@ -7,17 +7,9 @@ use lib.Dec.{eqb}
 use Rattle.plan.specs.declared.Plan.{Plan}
 use Rattle.clock_read.specs.Hpsys.{reg}
 use Rattle.journal.specs.declared.Machine.{Machine}
-use Rattle.journal.specs.Run.{Run, Effect, idle, halted, _▸_, store, waitHxt48}
+use Rattle.journal.specs.Run.{Run, Effect, idle, halted, _▸_, store}
 use Rattle.journal.specs.Machine.{Reached}
 use Rattle.calibration.specs.Calibration.{calibrateHrc48}
-
--- where the core runs on HXT48 (1), its request and the wait for it
-unfoldable pub startHxt48 : List ℕ → Effect
-startHxt48 a r = cond (eqb (reg (r .head) 1) 1) (store 22 1 ▸ waitHxt48 a) idle r
-
--- on every boot: that, and the peripheral clock on HXT48 (1)
-unfoldable pub initBegin : List ℕ → Effect
-initBegin a = startHxt48 a ▸ store 6 1
 
 -- LRC32 on, the low-power clock on Lrc32 (1), the DLL buffer on
 unfoldable pub bootStores : Effect
@@ -46,7 +38,7 @@ swallowed r = record {
   stop = cond (isWarning (r .stop)) 0 (r .stop);
 }
 
--- on all but a standby boot, up to the core clock
+-- all of it
 unfoldable pub initFirst : Plan → List ℕ → Effect
 initFirst p a = bootStores ▸ calibrating p a ▸ swallowed
 

@@ -1,4 +1,4 @@
-// rcc/clock_config.rs, `init` before the core clock: HXT48, the low-power clocks, calibration.
+// rcc/clock_config.rs, `init` before the core clock, on all but a standby boot: the low-power clocks, calibration.
 ghost use mathlib.Core.Path.{_≡_};
 ghost use Prim.Native.Nat.{_≤_};
 ghost use lib.ListN.{length};
@@ -6,8 +6,6 @@ ghost use Rattle.head.specs.Encodable.{Encodable};
 ghost use Rattle.journal.specs.Run.{_▸_};
 ghost use Rattle.journal.specs.Machine.{Ran, Quietly, Ready, Kept};
 ghost use Rattle.init_first.specs.First.{
-  startHxt48,
-  initBegin,
   bootStores,
   leaveHrc48,
   calibrating,
@@ -24,33 +22,6 @@ use plan::Plan;
 pub struct Calibrated {
     pub machine: Machine,
     pub warning: u8,
-}
-
-fn start_hxt48(m: Machine, journal: &mut [u32], answers: &[u16]) -> Machine
-    requires { ⌜ Ready 2 m (now journal) ⌝ }
-    requires { ⌜ (m .taken ≤ length (now answers)) × (length (now answers) ≤ 4096) ⌝ }
-    ensures { λ r. ⌜ Ran (startHxt48 (now (answers .entry))) m r (now (journal .entry)) (now (journal .exit)) ⌝ }
-    ensures { λ r. ⌜ Kept 2 m r ⌝ }
-    ensures { λ r. ⌜ r .taken ≤ length (now (answers .entry)) ⌝ }
-{
-    let head = m.head;
-    let select = head.regs[1];
-    if select != 1 {
-        return m;
-    }
-    let m = m.store(journal, 22, 1);
-    hxt48_wait::wait_hxt48(m, journal, answers)
-}
-
-pub fn init_begin(m: Machine, journal: &mut [u32], answers: &[u16]) -> Machine
-    requires { ⌜ Ready 3 m (now journal) ⌝ }
-    requires { ⌜ (m .taken ≤ length (now answers)) × (length (now answers) ≤ 4096) ⌝ }
-    ensures { λ r. ⌜ Ran (initBegin (now (answers .entry))) m r (now (journal .entry)) (now (journal .exit)) ⌝ }
-    ensures { λ r. ⌜ Kept 3 m r ⌝ }
-    ensures { λ r. ⌜ r .taken ≤ length (now (answers .entry)) ⌝ }
-{
-    let m = start_hxt48(m, journal, answers);
-    m.store(journal, 6, 1)
 }
 
 fn boot_stores(m: Machine, journal: &mut [u32]) -> Machine

@@ -1,4 +1,4 @@
-// rcc/clock_config.rs, `init` after the core clock: DLL2, USB, the other selects.
+// rcc/clock_config.rs, `init` after the core clock: DLL2, then USB and the other selects.
 ghost use mathlib.Core.Path.{_≡_};
 ghost use mathlib.Core.Bool.{true};
 ghost use Prim.Native.Nat.{_≤_};
@@ -10,21 +10,15 @@ ghost use Rattle.register.specs.Codes.{fitsRegister};
 ghost use Rattle.journal.specs.Machine.{Ran, Ready, Kept};
 ghost use Rattle.init_rest.specs.Rest.{
   isSet,
-  backTo,
-  flashBack,
   moveDll2,
   setDll2,
   plannedDll2,
-  plannedUsb,
-  plannedMuxes,
   initRest,
 };
 use clock::Dll;
 use clock::MaybeDll;
 use journal::Machine;
 use plan::Plan;
-
-const FLASH_DLL2: u32 = 2;
 
 fn is_set(d: Dll, word: u32) -> bool
     ensures { λ r. ⌜ r ≡ isSet d word ⌝ }
@@ -41,21 +35,6 @@ fn is_set(d: Dll, word: u32) -> bool
         return head::b(word) == 1;
     }
     head::b(word) == 0
-}
-
-fn back_to(select: u32) -> u32
-    ensures { λ r. ⌜ (r ≡ backTo select) × (r ≤ 2) ⌝ }
-{
-    if select == FLASH_DLL2 {
-        return FLASH_DLL2;
-    }
-    0
-}
-
-fn flash_back(old: u32) -> u32
-    ensures { λ r. ⌜ (r ≡ flashBack old) × (fitsRegister 5 r ≡ true) ⌝ }
-{
-    head::word(0, back_to(head::b(old)), back_to(head::c(old)))
 }
 
 // The flash selects leave DLL2 while it is set anew.
@@ -85,7 +64,7 @@ fn set_dll2(m: Machine, journal: &mut [u32], answers: &[u16], d: Dll) -> Machine
     if is_set(d, word) {
         return m;
     }
-    let back = flash_back(head.regs[5]);
+    let back = flash_select::flash_back(head.regs[5]);
     move_dll2(m, journal, answers, d, back)
 }
 
@@ -103,37 +82,6 @@ fn configure_dll2(m: Machine, journal: &mut [u32], answers: &[u16], dll2: MaybeD
     set_dll2(m, journal, answers, d)
 }
 
-fn configure_usb(m: Machine, journal: &mut [u32], p: Plan, usb_div: u8) -> Machine
-    requires { ⌜ Ready 2 m (now journal) ⌝ }
-    requires { ⌜ legal p ≡ true ⌝ }
-    requires { ⌜ («usb_div» ≡ usbDivider p) × («usb_div» ≤ 7) ⌝ }
-    ensures { λ r. ⌜ Ran (plannedUsb p) m r (now (journal .entry)) (now (journal .exit)) ⌝ }
-    ensures { λ r. ⌜ Kept 2 m r ⌝ }
-    ensures { λ r. ⌜ r .taken ≡ m .taken ⌝ }
-{
-    let usb = p.usb;
-    let usbsel = p.usbsel as u32;
-    if usb {
-        let m = m.store(journal, 8, usb_div as u32);
-        return m.store(journal, 7, usbsel);
-    }
-    m
-}
-
-fn configure_muxes(m: Machine, journal: &mut [u32], p: Plan) -> Machine
-    requires { ⌜ Ready 3 m (now journal) ⌝ }
-    requires { ⌜ legal p ≡ true ⌝ }
-    ensures { λ r. ⌜ Ran (plannedMuxes p) m r (now (journal .entry)) (now (journal .exit)) ⌝ }
-    ensures { λ r. ⌜ Kept 3 m r ⌝ }
-    ensures { λ r. ⌜ r .taken ≡ m .taken ⌝ }
-{
-    let perisel = p.perisel as u32;
-    let wdtsel = p.wdtsel as u32;
-    let m = m.store(journal, 6, perisel);
-    let m = m.store(journal, 10, wdtsel);
-    m.store(journal, 9, 0)
-}
-
 pub fn init_rest(m: Machine, journal: &mut [u32], answers: &[u16], p: Plan, usb_div: u8) -> Machine
     requires { ⌜ Ready 13 m (now journal) ⌝ }
     requires { ⌜ (m .taken ≤ length (now answers)) × (length (now answers) ≤ 4096) ⌝ }
@@ -144,6 +92,6 @@ pub fn init_rest(m: Machine, journal: &mut [u32], answers: &[u16], p: Plan, usb_
 {
     let dll2 = p.dll2;
     let m = configure_dll2(m, journal, answers, dll2);
-    let m = configure_usb(m, journal, p, usb_div);
-    configure_muxes(m, journal, p)
+    let m = init_selects::configure_usb(m, journal, p, usb_div);
+    init_selects::configure_muxes(m, journal, p)
 }

@@ -11,7 +11,8 @@ use Rattle.record.proofs.Refusals.{none-at, not-refused}
 use Rattle.record.proofs.Bytes.{within-at}
 use Rattle.plan_code.specs.Code.{largest, stageOf, coded}
 use Rattle.plan.specs.declared.Plan.{Plan}
-use Rattle.plan.specs.Plan.{encoded, legal, recordTests, recordRefusal}
+use Rattle.plan_refusal.specs.Refusal.{recordTests, recordRefusal}
+use Rattle.plan.specs.Plan.{encoded, legal}
 
 -- what refusals 1 to 3 leave of the bytes of a record
 pub record WellFormed (b : List ℕ) : Type 0 where

@@ -1,28 +1,15 @@
 -- The plan record of document 01, as bytes and as a value. Assumes nothing.
 use Prim.Native.Nat.{ℕ}
 use mathlib.Core.List.{List, [], _∷_}
-use mathlib.Core.Bool.{Bool, cond, not}
+use mathlib.Core.Bool.{Bool, cond}
 use lib.Dec.{eqb}
-use lib.ListN.{length, getD, drop}
-use Rattle.record.specs.Bytes.{twoBytes, isWithin}
-use Rattle.record.specs.Refusals.{refuse, firstOf}
-use Rattle.plan_code.specs.Code.{largest, coded, dllOf, bit, presentOf, stageOf, halfOf}
+use lib.ListN.{getD, drop}
+use Rattle.record.specs.Bytes.{isWithin}
+use Rattle.plan_code.specs.Code.{largest, dllOf, bit, presentOf, stageOf, halfOf}
+unfoldable pub use Rattle.plan_refusal.specs.Refusal.{recordRefusal}
 use Rattle.plan.specs.declared.Plan.{Plan}
 use Rattle.plan.specs.declared.Decoded.{Decoded}
 use Rattle.plan.specs.declared.Decoded.the-variants.{Read, Unread}
-
--- the tests of a plan record in their order: the slice is 20 bytes, its length field 18, its version 1
-abbrev pub recordTests : List ℕ → List ℕ
-recordTests b =
-    refuse 1 (not (eqb (length b) 20))
-    ∷ refuse 1 (not (eqb (twoBytes (getD b 0 0) (getD b 1 0)) 18))
-    ∷ refuse 2 (not (eqb (getD b 2 0) 1))
-    ∷ refuse 3 (not (coded b))
-    ∷ []
-
--- refusal 1, 2 or 3 of a plan record, 0 for none
-unfoldable pub recordRefusal : List ℕ → ℕ
-recordRefusal b = firstOf (recordTests b)
 
 -- the fields of a plan record in their order
 unfoldable pub planOf : List ℕ → Plan

@@ -34,7 +34,7 @@ pub enum Decoded {
 pub fn decode(bytes: &[u8]) -> Decoded
     ensures { λ r. ⌜ r ≡ decoded (now (bytes .entry)) ⌝ }
 {
-    let refusal = code::refusal(bytes);
+    let refusal = plan_refusal::refusal(bytes);
     if refusal != 0 {
         return Decoded::Unread(refusal);
     }

@@ -1,9 +1,9 @@
--- A number of four bytes and a task are read from their bytes as they were written. Assumes nothing.
-use Prim.Native.Nat.{ℕ, suc, _+_, _/_, _%_, _≤_, _<_}
+-- A task is read from its bytes as it was written. Assumes nothing.
+use Prim.Native.Nat.{ℕ, suc, _+_, _≤_, _<_}
 use mathlib.Core.Path.{_≡_, refl, ap, sym, _∙_}
 use mathlib.Core.List.{List, [], _∷_, _++_}
 use native.Mathlib.Omega.{arith}
-use native.Mathlib.Nat.{add-zero, div-div-eq-div-mul}
+use native.Mathlib.Nat.{add-zero}
 use lib.ListN.{length, getD, take, drop, set, length-drop}
 use lib.Seq.{take-add, getD-drop}
 use Rattle.record.specs.Bytes.{Bytes}
@@ -11,34 +11,14 @@ use Rattle.record.specs.Items.{laid}
 use Rattle.record.proofs.Laid.{laid-sets, laid-next}
 use Rattle.task.specs.declared.Task.{Task}
 use Rattle.task.specs.Task.{InBytes}
-use Rattle.task_bytes.specs.Four.{fourOf, fourBytes, fourIn}
+use Rattle.four_bytes.specs.Four.{fourOf, fourBytes, fourIn}
+use Rattle.four_bytes.proofs.Four.{four-of-bytes, bytes-of-four, four-same, four-in-32}
 use Rattle.task_bytes.specs.Tasks.{taskIn, taskBytes}
 
 -- nine bytes
 pub task-length : (t : Task) → length (taskBytes t) ≡ 9
 unfolding taskBytes fourBytes
 task-length t = refl
-
-pub four-of-bytes : (n : ℕ) (rest : List ℕ) → n < 4294967296 → fourIn (fourBytes n ++ rest) ≡ n
-unfolding fourIn fourBytes
-four-of-bytes n rest h = rw (← div-div-eq-div-mul n 65536 256, ← div-div-eq-div-mul n 256 256) (omega arith)
-
-pub bytes-of-four : (b : List ℕ) → 4 ≤ length b → Bytes b → fourBytes (fourIn b) ≡ take 4 b
-unfolding fourIn fourBytes
-bytes-of-four [] h bytes = absurd (omega arith)
-bytes-of-four (x ∷ []) h bytes = absurd (omega arith)
-bytes-of-four (x ∷ y ∷ []) h bytes = absurd (omega arith)
-bytes-of-four (x ∷ y ∷ z ∷ []) h bytes = absurd (omega arith)
-bytes-of-four (x ∷ y ∷ z ∷ w ∷ b) h bytes =
-    let p = bytes 0 in
-    let q = bytes 1 in
-    let r = bytes 2 in
-    let s = bytes 3 in
-    let a : fourOf x y z w / 16777216 % 256 ≡ x = omega arith in
-    let b : fourOf x y z w / 65536 % 256 ≡ y = omega arith in
-    let c : fourOf x y z w / 256 % 256 ≡ z = omega arith in
-    let d : fourOf x y z w % 256 ≡ w = omega arith in
-    rw (a, b, c, d)
 
 pub task-of-bytes : (t : Task) (rest : List ℕ) → InBytes t → taskIn (taskBytes t ++ rest) ≡ t
 unfolding taskIn taskBytes fourBytes
@@ -56,10 +36,6 @@ bytes-of-task (x ∷ b) h bytes =
     (ap (λ (l : List ℕ). x ∷ l) (sym (take-add 4 4 b)))
 
 -- a task is read from its own bytes only
-four-same : (b d : List ℕ) → ((i : ℕ) → i < 4 → getD b i 0 ≡ getD d i 0) → fourIn b ≡ fourIn d
-unfolding fourIn
-four-same b d agree = rw (agree 0 (omega arith), agree 1 (omega arith), agree 2 (omega arith), agree 3 (omega arith))
-
 pub task-same : (b d : List ℕ) → ((i : ℕ) → i < 9 → getD b i 0 ≡ getD d i 0) → taskIn b ≡ taskIn d
 unfolding taskIn
 task-same b d agree = rw (agree 0 (omega arith), four 1 (omega arith), four 5 (omega arith))
@@ -93,10 +69,6 @@ task-laid at t b h =
 -- a task that is read from bytes fits its bytes
 pub bytes-drop : (b : List ℕ) (n : ℕ) → Bytes b → Bytes (drop n b)
 bytes-drop b n bytes i = rw getD-drop (bytes (n + i))
-
-four-in-32 : (b : List ℕ) → Bytes b → fourIn b < 4294967296
-unfolding fourIn
-four-in-32 b bytes = omega (arith, bytes 0, bytes 1, bytes 2, bytes 3)
 
 pub task-in-bytes : (b : List ℕ) → Bytes b → InBytes (taskIn b)
 unfolding taskIn

@@ -6,7 +6,7 @@ use lib.ListN.{getD, drop, replicate}
 use Rattle.record.specs.Items.{items}
 use Rattle.task.specs.declared.Task.{Task}
 use Rattle.task.specs.Task.{noTask, allOk, distinct}
-use Rattle.task_bytes.specs.Four.{fourIn, fourBytes}
+use Rattle.four_bytes.specs.Four.{fourIn, fourBytes}
 
 -- "per task id .., cycles and period in microseconds, four big-endian bytes each": the task at the front of bytes, and a task's bytes
 unfoldable pub taskIn : List ℕ → Task

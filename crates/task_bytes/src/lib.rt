@@ -4,30 +4,23 @@ ghost use Prim.Native.Nat.{_+_, _*_, _≤_};
 ghost use lib.ListN.{length, take, drop};
 ghost use Rattle.register.specs.Registers.{bufferBytes};
 ghost use Rattle.record.specs.Items.{items, joined, laid};
-ghost use Rattle.task_bytes.specs.Four.{fourOf, fourBytes};
 ghost use Rattle.task_bytes.specs.Tasks.{taskIn, taskBytes, firstTask, countIn, placed, placesIn, tasksFit};
 use task::Task;
 
 const FIRST_TASK: usize = 111;
-
-fn four_bytes(a: u8, b: u8, c: u8, d: u8) -> u32
-    ensures { λ r. ⌜ r ≡ fourOf a b c d ⌝ }
-{
-    (a as u32) * 16777216 + ((b as u32) * 65536 + ((c as u32) * 256 + (d as u32)))
-}
 
 // The task at a place of a record.
 pub fn task_at(buffer: &[u8], at: usize) -> Task
     requires { ⌜ at + 9 ≤ length (now buffer) ⌝ }
     ensures { λ r. ⌜ r ≡ taskIn (drop at (now (buffer .entry))) ⌝ }
 {
-    let cycles = four_bytes(
+    let cycles = four_bytes::four_bytes(
         buffer[at + 1],
         buffer[at + 2],
         buffer[at + 3],
         buffer[at + 4],
     );
-    let period = four_bytes(
+    let period = four_bytes::four_bytes(
         buffer[at + 5],
         buffer[at + 6],
         buffer[at + 7],
@@ -80,23 +73,13 @@ pub fn fit(buffer: &[u8]) -> bool
     task::distinct(tasks, count)
 }
 
-fn put_four(buffer: &mut [u8], at: usize, number: u32)
-    requires { ⌜ at + 4 ≤ length (now buffer) ⌝ }
-    ensures { λ _. ⌜ now (buffer .exit) ≡ laid at (fourBytes number) (now (buffer .entry)) ⌝ }
-{
-    buffer[at] = (number / 16777216 % 256) as u8;
-    buffer[at + 1] = (number / 65536 % 256) as u8;
-    buffer[at + 2] = (number / 256 % 256) as u8;
-    buffer[at + 3] = (number % 256) as u8;
-}
-
 fn put_task(buffer: &mut [u8], at: usize, task: Task)
     requires { ⌜ at + 9 ≤ length (now buffer) ⌝ }
     ensures { λ _. ⌜ now (buffer .exit) ≡ laid at (taskBytes task) (now (buffer .entry)) ⌝ }
 {
     buffer[at] = task.id;
-    put_four(buffer, at + 1, task.cycles);
-    put_four(buffer, at + 5, task.period);
+    four_bytes::put_four(buffer, at + 1, task.cycles);
+    four_bytes::put_four(buffer, at + 5, task.period);
 }
 
 // Writes the booked tasks at their places.
