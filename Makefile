@@ -112,7 +112,9 @@ compare-heads:
 	$(ORACLE) compare --quick --only heads --only lpsys --only change
 
 evidence: oracle
-	tools/evidence.sh $(RANDOM_GROUPS) >docs/EVIDENCE.md
+	@mkdir -p build
+	tools/evidence.sh $(RANDOM_GROUPS) >build/EVIDENCE.md
+	mv build/EVIDENCE.md docs/EVIDENCE.md
 
 record: oracle
 	$(ORACLE) record crates/replay/data

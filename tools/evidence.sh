@@ -7,7 +7,10 @@ cd "$(dirname "$0")/.."
 
 commit=${COMMIT:-$(git log -1 --format=%h -- crates crates.txt)}
 command="oracle compare --table${*:+ $*}"
-tables=$(oracle/target/release/oracle compare --table "$@")
+tables=$(oracle/target/release/oracle compare --table "$@") || {
+    printf '%s\n' "$tables" >&2
+    exit 1
+}
 
 cat <<TEXT
 # Evidence
