@@ -2,9 +2,9 @@
 //! the model of what the original has not, in one table.
 
 use crate::bench_calls;
-use crate::ffi;
 use crate::heads::{Buffer, buffer, busy, with_tasks};
 use crate::plans::{Record, coded, likely};
+use rikkovan::bytes;
 use sifli::head::{self, BUFFER, Head, MOST_TASKS};
 use sifli::plan::{self, DEFAULT, LENGTH, Plan};
 use sifli::random::Random;
@@ -120,14 +120,14 @@ fn plan_checks() -> [Row; 3] {
         let decoded: Vec<Plan> = plans.iter().map(|plan| decoded(plan)).collect();
         let builders: Vec<_> = decoded.iter().map(Plan::builder).collect();
         let is_accepted = decoded.iter().all(|plan| plan.check() == 0);
-        let bytes = plans.clone();
+        let records = plans.clone();
         Row {
             name,
-            ours: in_turn(plans, |plan| ffi::plan_check(plan)),
+            ours: in_turn(plans, |plan| bytes::plan_check(plan)),
             in_place: is_accepted.then(|| in_turn(builders, |builder| builder.check())),
             on_bytes: match is_accepted {
-                true => in_turn(bytes, |plan| self::decoded(plan).builder().check()),
-                false => in_turn(bytes, |plan| plan::check(plan)),
+                true => in_turn(records, |plan| self::decoded(plan).builder().check()),
+                false => in_turn(records, |plan| plan::check(plan)),
             },
             lent: LENGTH,
         }
@@ -181,7 +181,7 @@ fn readings() -> [Row; 4] {
     let clocks = |name, tasks| {
         let ours = |head: &Buffer| {
             let mut clocks = [0; 15];
-            ffi::read_clocks(head, &mut clocks, 0);
+            black_box(bytes::read_clocks(head, &mut clocks));
             clocks
         };
         reading(name, tasks, ours, readings::clocks_in_place)
@@ -189,7 +189,7 @@ fn readings() -> [Row; 4] {
     let lpsys = |name, tasks| {
         let ours = |head: &Buffer| {
             let mut lpsys = [0; 6];
-            ffi::read_lpsys(head, &mut lpsys, 0);
+            black_box(bytes::read_lpsys(head, &mut lpsys));
             lpsys
         };
         reading(name, tasks, ours, readings::lpsys_in_place)

@@ -1,13 +1,13 @@
 //! The plan check of librikkovan.a against the original's.
 
 use crate::compare::Extent;
-use crate::ffi;
 use crate::groups::{Groups, Number, Report};
 use crate::plans::{
     LONGEST, Record, STAGES, coded, damaged, default_with, dlls, likely, near_default, of_length,
     put_dll,
 };
 use crate::tally::Tally;
+use rikkovan::bytes;
 use sifli::plan::{self, DEFAULT, LENGTH, at};
 use sifli::query::Query;
 use sifli::random::Random;
@@ -29,7 +29,7 @@ pub fn run(extent: Extent) -> Report {
 
 fn compare(tally: &mut Tally, slice: &[u8]) {
     let original = plan::check(slice);
-    let ours = ffi::plan_check(slice);
+    let ours = bytes::plan_check(slice);
     tally.count(original);
     if original != ours {
         tally.differ(&Query::plan(slice));

@@ -1,8 +1,9 @@
-//! What librikkovan.a answers to a query.
+//! What librikkovan.a answers to a query, through the crate in bindings/rust.
 
-use crate::{ffi, ffi_change, ffi_config, ffi_lpsys, ffi_tasks};
+use rikkovan::bytes;
 use sifli::lent::{Left, REFUSED};
 use sifli::query::{Call, Id, Query, Side};
+use std::hint::black_box;
 
 /// What the library answers and leaves.
 pub fn ours(query: &Query) -> Left {
@@ -14,23 +15,38 @@ pub fn differs(query: &Query) -> bool {
     ours(query) != query.wanted()
 }
 
-/// A call of `rcc/clock_config.rs`.
-macro_rules! of_config {
-    ($name:ident) => {
+/// The array that stands in a list from a place on.
+///
+/// # Panics
+///
+/// Panics where the list ends before it.
+pub fn array<const N: usize>(list: &mut [u32], at: usize) -> &mut [u32; N] {
+    list[at..].first_chunk_mut().expect("room for the array")
+}
+
+/// A call that is lent a head and a journal, with so many arguments.
+macro_rules! with_journal {
+    ($call:ident($($argument:ident: $type:ty),*)) => {
         |query, lent| {
-            let call: ffi_config::Exported = ffi_config::$name;
-            let (plan, answers) = (query.plan, query.answers);
-            call(lent.bytes, plan, lent.clocks, lent.journal, answers)
+            let [$($argument,)* ..] = query.arguments;
+            bytes::$call(lent.bytes, $($argument as $type,)* lent.journal).bits()
         }
     };
 }
 
-/// A call of LPSYS.
-macro_rules! of_lpsys {
-    ($name:ident) => {
+/// A call that is lent answers too.
+macro_rules! with_answers {
+    ($call:ident) => {
+        |query, lent| bytes::$call(lent.bytes, lent.journal, query.answers).bits()
+    };
+}
+
+/// A call that is lent a plan and the clocks too.
+macro_rules! with_clocks {
+    ($call:ident) => {
         |query, lent| {
-            let call: ffi_lpsys::Exported = ffi_lpsys::$name;
-            call(lent.bytes, query.arguments, lent.journal, query.answers)
+            let clocks = array(lent.clocks, 0);
+            bytes::$call(lent.bytes, query.plan, clocks, lent.journal, query.answers).bits()
         }
     };
 }
@@ -38,30 +54,42 @@ macro_rules! of_lpsys {
 /// The exported call.
 pub fn side(call: &Call) -> Side {
     match call.id {
-        Id::PlanCheck => |query, _| match ffi::plan_check(query.plan) {
+        Id::PlanCheck => |query, _| match bytes::plan_check(query.plan) {
             0 => 0,
             refusal => REFUSED | refusal,
         },
-        Id::ReadClocks => |query, lent| ffi::read_clocks(query.bytes, lent.clocks, 0),
-        Id::ReadLpsys => |query, lent| ffi::read_lpsys(query.bytes, lent.clocks, 0),
-        Id::Request => of_lpsys!(rikkovan_config_lpsys_hclk_mhz),
-        Id::Safe => of_lpsys!(rikkovan_ensure_safe_lcpu_frequency),
-        Id::Wake => of_lpsys!(rikkovan_wake_lcpu),
-        Id::Cancel => of_lpsys!(rikkovan_cancel_lcpu_active_request),
-        Id::Hxt48 => of_lpsys!(rikkovan_ensure_hxt48_ready),
-        Id::Hdiv => of_lpsys!(rikkovan_set_lpsys_hdiv),
-        Id::Div => of_lpsys!(rikkovan_set_lpsys_div),
-        Id::Mac => of_lpsys!(rikkovan_config_lpsys_mac_clock),
-        Id::Sysclk => of_lpsys!(rikkovan_select_lpsys_sysclk),
-        Id::Peri => of_lpsys!(rikkovan_select_lpsys_peri),
-        Id::Calibrate => of_config!(rikkovan_calibrate_hrc48),
-        Id::Init => of_config!(rikkovan_init),
-        Id::Reconfigure => of_config!(rikkovan_reconfigure_sysclk),
-        Id::LoadCheck => |_, lent| ffi_tasks::load_check(lent.bytes),
-        Id::Book => |query, lent| ffi_tasks::book(lent.bytes, query.task()),
-        Id::Release => |query, lent| ffi_tasks::release(lent.bytes, query.task().id),
+        Id::ReadClocks => {
+            |query, lent| bytes::read_clocks(query.bytes, array(lent.clocks, 0)).bits()
+        }
+        Id::ReadLpsys => |query, lent| bytes::read_lpsys(query.bytes, array(lent.clocks, 0)).bits(),
+        Id::Request => with_journal!(config_lpsys_hclk_mhz(freq_mhz: u32)),
+        Id::Safe => with_journal!(ensure_safe_lcpu_frequency()),
+        Id::Wake => with_answers!(wake_lcpu),
+        Id::Cancel => with_journal!(cancel_lcpu_active_request()),
+        Id::Hxt48 => with_answers!(ensure_hxt48_ready),
+        Id::Hdiv => with_journal!(set_lpsys_hdiv(hdiv: u8)),
+        Id::Div => with_journal!(set_lpsys_div(hdiv: u8, pdiv1: u8, pdiv2: u8)),
+        Id::Mac => with_journal!(config_lpsys_mac_clock(macdiv: u8, macfreq: u8)),
+        Id::Sysclk => with_journal!(select_lpsys_sysclk(source: u8)),
+        Id::Peri => with_journal!(select_lpsys_peri(source: u8)),
+        Id::Calibrate => with_answers!(calibrate_hrc48),
+        Id::Init => with_clocks!(init),
+        Id::Reconfigure => with_clocks!(reconfigure_sysclk),
+        Id::LoadCheck => |_, lent| load_check(lent.bytes),
+        Id::Book => |query, lent| {
+            let task = query.task();
+            bytes::book(lent.bytes, task.id, task.cycles, task.period_us).bits()
+        },
+        Id::Release => |query, lent| bytes::release(lent.bytes, query.task().id).bits(),
         Id::Change => {
-            |query, lent| ffi_change::change(lent.bytes, query.plan, lent.journal, query.answers)
+            |query, lent| bytes::change(lent.bytes, query.plan, lent.journal, query.answers).bits()
         }
     }
+}
+
+/// The bytes are lent so that a store into them would be seen.
+fn load_check(tasks: &mut [u8]) -> u64 {
+    let answer = bytes::load_check(tasks).bits();
+    black_box(tasks);
+    answer
 }

@@ -1,6 +1,7 @@
 //! What the two reading calls leave: their answer words and the lent memory.
 
-use crate::ffi;
+use crate::ours::array;
+use rikkovan::bytes;
 use sifli::head;
 use sifli::lent::{REFUSED, numbered};
 use sifli::readings;
@@ -44,8 +45,8 @@ impl Read {
     /// By librikkovan.a.
     pub fn ours(buffer: &[u8]) -> Self {
         let mut lent = BEFORE;
-        let clocks = ffi::read_clocks(buffer, &mut lent, CLOCKS);
-        let lpsys = ffi::read_lpsys(buffer, &mut lent, LPSYS);
+        let clocks = bytes::read_clocks(buffer, array(&mut lent, CLOCKS)).bits();
+        let lpsys = bytes::read_lpsys(buffer, array(&mut lent, LPSYS)).bits();
         Self {
             words: [clocks, lpsys],
             lent,
