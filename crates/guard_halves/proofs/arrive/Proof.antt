@@ -1,9 +1,9 @@
--- `guard_change::arrive` meets its contract: one step after the other. Assumes nothing.
+-- `guard_halves::arrive` meets its contract: one step after the other. Assumes nothing.
 use native.Mathlib.Omega.{arith}
 use Rattle.journal.proofs.Steps.{both-quiet}
 use borrow.Author.Needs.{needs}
-use Rattle.guard_change.proofs.arrive.Statement.{statement}
-use Rattle.guard_change.proofs.arrive.Tie as tie
+use Rattle.guard_halves.proofs.arrive.Statement.{statement}
+use Rattle.guard_halves.proofs.arrive.Tie as tie
 
 mode-at-requires : tie.Need-mode-at-requires
 mode-at-requires c κs = search needs

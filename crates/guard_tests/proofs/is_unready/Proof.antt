@@ -1,8 +1,8 @@
--- `guard::is_unready` meets its contract: each test decides its part. Assumes nothing.
+-- `guard_tests::is_unready` meets its contract: each test decides its part. Assumes nothing.
 use borrow.Author.Tests.{eq-eqb, ne-eqb, not-true, not-false}
 use borrow.Author.Needs.{needs}
-use Rattle.guard.proofs.is_unready.Statement.{statement}
-use Rattle.guard.proofs.is_unready.Tie as tie
+use Rattle.guard_tests.proofs.is_unready.Statement.{statement}
+use Rattle.guard_tests.proofs.is_unready.Tie as tie
 
 returns : tie.Need-returns
 returns c = search needs

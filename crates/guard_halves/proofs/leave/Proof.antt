@@ -1,10 +1,10 @@
--- `guard_change::leave` meets its contract: one step after the other. Assumes nothing.
+-- `guard_halves::leave` meets its contract: one step after the other. Assumes nothing.
 use native.Mathlib.Omega.{arith}
 use Rattle.plan.proofs.WellFormed.{legal-stages}
 use Rattle.journal.proofs.Steps.{both, both-quiet}
 use borrow.Author.Needs.{needs}
-use Rattle.guard_change.proofs.leave.Statement.{statement}
-use Rattle.guard_change.proofs.leave.Tie as tie
+use Rattle.guard_halves.proofs.leave.Statement.{statement}
+use Rattle.guard_halves.proofs.leave.Tie as tie
 
 raise-requires : tie.Need-raise-requires
 raise-requires c κs = search needs

@@ -1,7 +1,7 @@
--- `guard::is_overloaded` meets its contract: the load is compared. Assumes nothing.
+-- `guard_tests::is_overloaded` meets its contract: the load is compared. Assumes nothing.
 use borrow.Author.Needs.{needs}
-use Rattle.guard.proofs.is_overloaded.Statement.{statement}
-use Rattle.guard.proofs.is_overloaded.Tie as tie
+use Rattle.guard_tests.proofs.is_overloaded.Statement.{statement}
+use Rattle.guard_tests.proofs.is_overloaded.Tie as tie
 
 limit-requires : tie.Need-limit-requires
 limit-requires c κs = search needs

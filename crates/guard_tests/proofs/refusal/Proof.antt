@@ -1,13 +1,13 @@
--- `guard::refusal` meets its contract: each test that led to a return decides its part of `guardTests`. Assumes nothing.
+-- `guard_tests::refusal` meets its contract: each test that led to a return decides its part of `guardTests`. Assumes nothing.
 use mathlib.Core.Path.{_≡_, sym, ap, _∙_}
 use mathlib.Core.Bool.{Bool}
 use Prim.Native.Nat.{ℕ}
 use borrow.Author.Tests.{not-true, not-false}
-use Rattle.guard.specs.Guard.{overloaded}
-use Rattle.guard.proofs.Ways.{unfit, not-ready, too-much, passes}
+use Rattle.guard_tests.specs.Tests.{overloaded}
+use Rattle.guard_tests.proofs.Ways.{unfit, not-ready, too-much, passes}
 use borrow.Author.Needs.{needs}
-use Rattle.guard.proofs.refusal.Statement.{statement}
-use Rattle.guard.proofs.refusal.Tie as tie
+use Rattle.guard_tests.proofs.refusal.Statement.{statement}
+use Rattle.guard_tests.proofs.refusal.Tie as tie
 
 is-fit-requires : tie.Need-is-fit-requires
 is-fit-requires c κs = search needs
