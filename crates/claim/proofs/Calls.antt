@@ -42,7 +42,7 @@ use Rattle.booking.proofs.Laws.{passed-load, passed-encodable}
 use Rattle.release.specs.Release.{releaseTests, release}
 use Rattle.release.proofs.Laws.{passed-has}
 use Rattle.lpsys_request.specs.Request.{request}
-use Rattle.clock_lpsys.specs.Calls.{outOfRange, requestTests, lpsysRequest}
+use Rattle.lpsys_frequency.specs.Calls.{outOfRange, requestTests, lpsysRequest}
 use Rattle.guard_steps.specs.Steps.{change}
 use Rattle.guard_safe.specs.Moment.{Ready, stopFor}
 use Rattle.guard_safe.proofs.View.{begun}

@@ -7,7 +7,8 @@ use lib.ListN.{getD}
 use Rattle.call.specs.Call.{Result}
 use Rattle.lpsys_dividers.specs.Dividers.{setLpsysHdiv, setLpsysDiv, configMac}
 use Rattle.lpsys_selects.specs.Selects.{selectSysclk, selectPeri}
-use Rattle.clock_lpsys.specs.Calls.{lpsysRequest, safeFrequency, wakeLcpu, cancelLcpu, ensureHxt48}
+use Rattle.lpsys_frequency.specs.Calls.{lpsysRequest, safeFrequency}
+use Rattle.clock_lpsys.specs.Calls.{wakeLcpu, cancelLcpu, ensureHxt48}
 use Rattle.named.specs.declared.Call.{Call}
 use Rattle.named.specs.declared.Call.the-variants.{Request, Safe, Wake, Cancel, Hxt48, Hdiv, Div, Mac, Sysclk, Peri}
 use Rattle.named.specs.declared.Form.{Form}

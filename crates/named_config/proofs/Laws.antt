@@ -16,7 +16,8 @@ use Rattle.clock_switch.specs.Switch.{toPlan}
 use Rattle.clock_init.specs.Init.{init}
 use Rattle.call_clocks.specs.Clocks.{withAudioOf}
 use Rattle.guard.specs.Guard.{changeCall}
-use Rattle.clock_config.specs.Calls.{calibration, headAfter, initCall, initClocks, reconfigureCall, reconfigureClocks}
+use Rattle.calibration_call.specs.Calibration.{calibration}
+use Rattle.clock_config.specs.Calls.{headAfter, initCall, initClocks, reconfigureCall, reconfigureClocks}
 use Rattle.named_config.specs.declared.Call.{Call}
 use Rattle.named_config.specs.declared.Call.the-variants.{Calibrate, Init, Reconfigure, Change}
 use Rattle.named_config.specs.Calls.{resultOf, clocksAfter}

@@ -5,7 +5,8 @@ use mathlib.Core.Bool.{Bool, true, false}
 use mathlib.Core.List.{List, [], _∷_}
 use Rattle.call.specs.Call.{Result}
 use Rattle.guard.specs.Guard.{changeCall}
-use Rattle.clock_config.specs.Calls.{calibration, initCall, initClocks, reconfigureCall, reconfigureClocks}
+use Rattle.calibration_call.specs.Calibration.{calibration}
+use Rattle.clock_config.specs.Calls.{initCall, initClocks, reconfigureCall, reconfigureClocks}
 use Rattle.named_config.specs.declared.Call.{Call}
 use Rattle.named_config.specs.declared.Call.the-variants.{Calibrate, Init, Reconfigure, Change}
 use Rattle.named_config.specs.declared.Named.{Named}

@@ -1,4 +1,4 @@
--- `clock_lpsys::ensure_safe_lcpu_frequency` meets its contract: the shared tests, 43, then the slowing. Assumes nothing.
+-- `lpsys_frequency::ensure_safe_lcpu_frequency` meets its contract: the shared tests, 43, then the slowing. Assumes nothing.
 use mathlib.Core.List.{[], _∷_}
 use Rattle.record.proofs.Refusals.{only-test}
 use native.Mathlib.Omega.{arith}
@@ -9,10 +9,10 @@ use Rattle.time.specs.declared.Reading.the-variants.{At, Unreadable}
 use Rattle.lpsys_read.specs.Lpsys.{lpsysHclkOf}
 use Rattle.call.proofs.Ending.{call-unadmitted, call-refused, call-ran, call-encodable, call-bytes, call-head}
 use Rattle.call.proofs.Admitting.{journal-room, started}
-use Rattle.clock_lpsys.specs.Calls.{safeTests, safeFrequency}
+use Rattle.lpsys_frequency.specs.Calls.{safeTests, safeFrequency}
 use borrow.Author.Needs.{needs}
-use Rattle.clock_lpsys.proofs.ensure_safe_lcpu_frequency.Statement.{statement}
-use Rattle.clock_lpsys.proofs.ensure_safe_lcpu_frequency.Tie as tie
+use Rattle.lpsys_frequency.proofs.ensure_safe_lcpu_frequency.Statement.{statement}
+use Rattle.lpsys_frequency.proofs.ensure_safe_lcpu_frequency.Tie as tie
 
 admit-requires : tie.Need-admit-requires
 admit-requires c κs = search needs

@@ -1,4 +1,4 @@
--- `clock_config::calibrate_hrc48` meets its contract: the shared tests, 31, then the calibration. Assumes nothing.
+-- `calibration_call::calibrate_hrc48` meets its contract: the shared tests, 31, then the calibration. Assumes nothing.
 use native.Mathlib.Omega.{arith}
 use mathlib.Core.Path.{_≡_, sym, ap, _∙_}
 use mathlib.Core.Bool.{true, false}
@@ -7,10 +7,10 @@ use Rattle.record.specs.Refusals.{firstOf}
 use Rattle.head.specs.Head.{headOf}
 use Rattle.call.proofs.Admitting.{answers-room, started}
 use Rattle.call.proofs.Ending.{call-unadmitted, call-refused, call-ran, call-encodable, call-bytes, call-head}
-use Rattle.clock_config.specs.Calls.{calibrationTests, calibration}
+use Rattle.calibration_call.specs.Calibration.{calibrationTests, calibration}
 use borrow.Author.Needs.{needs}
-use Rattle.clock_config.proofs.calibrate_hrc48.Statement.{statement}
-use Rattle.clock_config.proofs.calibrate_hrc48.Tie as tie
+use Rattle.calibration_call.proofs.calibrate_hrc48.Statement.{statement}
+use Rattle.calibration_call.proofs.calibrate_hrc48.Tie as tie
 
 admit-with-answers-requires : tie.Need-admit-with-answers-requires
 admit-with-answers-requires c κs = search needs

@@ -1,4 +1,4 @@
--- `clock_lpsys::config_lpsys_hclk_mhz` meets its contract: the shared tests, 15, then the request. Assumes nothing.
+-- `lpsys_frequency::config_lpsys_hclk_mhz` meets its contract: the shared tests, 15, then the request. Assumes nothing.
 use Rattle.call.proofs.Admitting.{journal-room, started}
 use Prim.Native.Nat.{_≤_}
 use native.Mathlib.Omega.{arith}
@@ -6,10 +6,10 @@ use mathlib.Core.Path.{refl, sym}
 use borrow.Author.Tests.{eq-eqb, ne-eqb, lt-ltb, le-ltb}
 use Rattle.record.specs.Refusals.{firstOf}
 use Rattle.call.proofs.Ending.{call-unadmitted, call-refused, call-ran, call-encodable, call-bytes}
-use Rattle.clock_lpsys.specs.Calls.{requestTests, lpsysRequest}
+use Rattle.lpsys_frequency.specs.Calls.{requestTests, lpsysRequest}
 use borrow.Author.Needs.{needs}
-use Rattle.clock_lpsys.proofs.config_lpsys_hclk_mhz.Statement.{statement}
-use Rattle.clock_lpsys.proofs.config_lpsys_hclk_mhz.Tie as tie
+use Rattle.lpsys_frequency.proofs.config_lpsys_hclk_mhz.Statement.{statement}
+use Rattle.lpsys_frequency.proofs.config_lpsys_hclk_mhz.Tie as tie
 
 admit-requires : tie.Need-admit-requires
 admit-requires c κs = search needs
