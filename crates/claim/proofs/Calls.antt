@@ -43,14 +43,15 @@ use Rattle.booking.proofs.Laws.{passed-load, passed-encodable}
 use Rattle.release.specs.Release.{releaseTests, release}
 use Rattle.release.proofs.Laws.{passed-has}
 use Rattle.lpsys_request.specs.Request.{request}
-use Rattle.clock_lpsys.specs.Calls.{outOfRange, requestTests, lpsysRequest}
+use Rattle.lpsys_frequency.specs.Calls.{outOfRange, requestTests, lpsysRequest}
 use Rattle.guard_steps.specs.Steps.{change}
 use Rattle.guard_safe.specs.Moment.{Ready, stopFor}
 use Rattle.guard_safe.proofs.View.{begun}
 use Rattle.guard_safe.proofs.Change.{Changed, change-moments}
 use Rattle.request_fit.proofs.Coded.{codes-now}
 use Rattle.request_fit.proofs.Requests.{request-moments, request-codes}
-use Rattle.guard.specs.Guard.{unready, changeTests, changeRefusal, changeCall}
+use Rattle.guard_tests.specs.Tests.{unready}
+use Rattle.guard.specs.Guard.{changeTests, changeRefusal, changeCall}
 use Rattle.claim.specs.Claim.{Call, changing, booking, releasing, requesting, perform, Typed, after, Carries, Asked, FitHead}
 use Rattle.claim.proofs.Written.{written-bytes}
 use Rattle.claim.proofs.Performed.{Fine, quiet-moments, quiet-regs, unchanged, ran, ran-tasks, ran-head}

@@ -41,7 +41,7 @@ use Rattle.guard_steps.specs.Steps.{modeAt, highest, peakOf, raise, leaveDll1, 
 use Rattle.guard.specs.Guard.{changeCall}
 use Rattle.lpsys_modes.specs.Modes.{dividerFor, presentMode, requestMode}
 use Rattle.lpsys_request.specs.Request.{setHdiv, request}
-use Rattle.clock_lpsys.specs.Calls.{lpsysRequest}
+use Rattle.lpsys_frequency.specs.Calls.{lpsysRequest}
 use Rattle.call.specs.Call.{performed}
 use Rattle.tasks.specs.Tasks.{holding, without}
 use Rattle.booking.specs.Booking.{book}

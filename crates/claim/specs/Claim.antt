@@ -24,7 +24,7 @@ use Rattle.call.specs.Call.{Result}
 use Rattle.tasks.specs.Tasks.{without}
 use Rattle.guard_safe.specs.Moment.{headWith, stopFor}
 use Rattle.guard.specs.Guard.{changeRefusal, changeCall}
-use Rattle.clock_lpsys.specs.Calls.{lpsysRequest}
+use Rattle.lpsys_frequency.specs.Calls.{lpsysRequest}
 use Rattle.booking.specs.Booking.{book}
 use Rattle.release.specs.Release.{release}
 

@@ -5,7 +5,7 @@ use Rattle.task.specs.declared.Task.{Task}
 use Rattle.call.specs.declared.Answer.{Answer}
 use Rattle.call.specs.Call.{Answers}
 use Rattle.guard.specs.Guard.{changeCall}
-use Rattle.clock_lpsys.specs.Calls.{lpsysRequest}
+use Rattle.lpsys_frequency.specs.Calls.{lpsysRequest}
 use Rattle.booking.specs.Booking.{book}
 use Rattle.release.specs.Release.{release}
 use Rattle.claim.specs.Claim.{changing, booking, releasing, requesting, perform}
@@ -15,7 +15,7 @@ module _ (b : List ℕ) (r : Answer) (b' j' : List ℕ) where
   pub change-performs : (pb j a : List ℕ) → Answers (changeCall pb b j a) r b' j' → Answers (perform (changing pb j a) b) r b' j'
   change-performs pb j a x = x
 
-  -- `clock_lpsys::config_lpsys_hclk_mhz`
+  -- `lpsys_frequency::config_lpsys_hclk_mhz`
   pub request-performs : (f : ℕ) (j : List ℕ) → Answers (lpsysRequest f b j) r b' j' → Answers (perform (requesting f j) b) r b' j'
   request-performs f j x = x
 

@@ -1,11 +1,11 @@
--- What each call of rcc/clock_config.rs leaves, on the bytes lent to it: `pb` a plan's, `b` a head's, `j` a journal, `a` answers. Assumes
--- nothing.
+-- What `init` and `reconfigure_sysclk` of rcc/clock_config.rs leave, on the bytes lent to them: `pb` a plan's, `b` a head's, `j` a journal,
+-- `a` answers. Assumes nothing.
 use Prim.Native.Nat.{ℕ}
-use mathlib.Core.Bool.{cond, not}
+use mathlib.Core.Bool.{cond}
 use mathlib.Core.List.{List, [], _∷_, _++_}
 use lib.Dec.{eqb}
 use lib.ListN.{replicate}
-use Rattle.record.specs.Refusals.{refuse, firstOf}
+use Rattle.record.specs.Refusals.{firstOf}
 use Rattle.plan.specs.Plan.{planOf}
 use Rattle.verdict.specs.Verdict.{verdict, numberOf}
 use Rattle.head.specs.declared.Head.{Head}
@@ -13,17 +13,9 @@ use Rattle.head.specs.Head.{headOf}
 use Rattle.head_clocks.specs.Clocks.{clocksOf}
 use Rattle.journal.specs.Run.{Run, Effect, begin}
 use Rattle.call.specs.Call.{Result, answersTests, performed}
-use Rattle.calibration.specs.Calibration.{calibrateHrc48}
 use Rattle.clock_switch.specs.Switch.{toPlan}
 use Rattle.call_clocks.specs.Clocks.{withAudioOf}
 use Rattle.clock_init.specs.Init.{init, initWarning}
-
--- "Calls test 17, 18, the head's 1 to 3, then the rest": `calibrate_hrc48`, with 31
-abbrev pub calibrationTests : List ℕ → List ℕ
-calibrationTests b = refuse 31 (not (headOf b .«hxt48_ready»)) ∷ []
-
-unfoldable pub calibration : List ℕ → List ℕ → List ℕ → Result
-calibration b j a = performed (firstOf (answersTests b j a ++ calibrationTests b)) (calibrateHrc48 a) 0 b j
 
 -- a call that is lent a plan: the plan's 1 to 14 come after the head's
 abbrev pub planTests : List ℕ → List ℕ

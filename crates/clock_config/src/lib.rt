@@ -1,30 +1,9 @@
-// rcc/clock_config.rs: calibration, `init` and `reconfigure_sysclk` on lent bytes.
+// rcc/clock_config.rs: `init` and `reconfigure_sysclk` on lent bytes; calibration is in `calibration_call`.
 ghost use mathlib.Core.Path.{_≡_};
 ghost use Rattle.call.specs.Call.{Answers};
-ghost use Rattle.clock_config.specs.Calls.{
-  calibration,
-  initCall,
-  initClocks,
-  reconfigureCall,
-  reconfigureClocks,
-};
+ghost use Rattle.clock_config.specs.Calls.{initCall, initClocks, reconfigureCall, reconfigureClocks};
+pub use calibration_call::calibrate_hrc48;
 use call::Answer;
-
-// Calibrates HRC48 against HXT48; 31 without HXT48.
-pub fn calibrate_hrc48(buffer: &mut [u8], journal: &mut [u32], answers: &[u16]) -> Answer
-    ensures { λ r. ⌜ Answers (calibration (now (buffer .entry)) (now (journal .entry)) (now (answers .entry))) r (now (buffer .exit)) (now (journal .exit)) ⌝ }
-{
-    let admitted = call::admit_with_answers(buffer, journal, answers);
-    if admitted.refusal != 0 {
-        return Answer::refused(admitted.refusal);
-    }
-    let head = admitted.head;
-    if head.hxt48_ready {
-        let m = calibration::calibrate_hrc48(call::start(head), journal, answers);
-        return call::finish(m, 0, buffer);
-    }
-    Answer::refused(31)
-}
 
 // Brings a head's clocks up as the plan has them, and gives its frequencies: all none on a refusal. The value is 0, or the 31 or 33 that
 // ended the calibration.

@@ -1,13 +1,11 @@
--- The tests of the guarded change, as far as they are passed. Assumes nothing.
+-- The tests of the guarded change on the bytes: the plan's, then its own. Assumes nothing.
 use Prim.Native.Nat.{ℕ}
 use mathlib.Core.Path.{_≡_, refl, sym, ap, _∙_, subst}
-use mathlib.Core.Bool.{true, false}
 use mathlib.Core.List.{List, [], _∷_, _++_}
 use Rattle.record.specs.Refusals.{firstOf}
 use Rattle.record.proofs.Refusals.{only-test, first-refuses, first-passes}
 use Rattle.plan.specs.declared.Plan.{Plan}
 use Rattle.plan.specs.Plan.{planOf}
-use Rattle.plan_clocks.specs.Clocks.{hclkHz}
 use Rattle.verdict.specs.Verdict.{verdict, numberOf}
 use Rattle.planned.specs.declared.Planned.{Planned}
 use Rattle.planned.specs.Planned.{Plans}
@@ -15,34 +13,13 @@ use Rattle.head.specs.declared.Head.{Head}
 use Rattle.head.specs.Head.{headOf}
 use Rattle.journal.specs.declared.Machine.{Machine}
 use Rattle.journal.specs.Machine.{Ran}
-use Rattle.fit.specs.Fit.{fits}
 use Rattle.guard_steps.specs.Steps.{change}
 use Rattle.call.specs.declared.Admitted.{Admitted}
 use Rattle.call.specs.Call.{answersTests, Admits}
 use Rattle.call.proofs.Ending.{call-head}
-use Rattle.guard.specs.Guard.{unready, overloaded, guardTests, changeTests}
+use Rattle.guard_tests.specs.Tests.{guardTests}
+use Rattle.guard.specs.Guard.{changeTests}
 
--- its own tests, on a plan and a head
-module _ (p : Plan) (h : Head) where
-  pub unfit : fits h ≡ false → firstOf (guardTests p h) ≡ 37
-  unfolding firstOf
-  unfit e = rw e
-
-  module _ (e : fits h ≡ true) where
-    pub not-ready : unready p h ≡ true → firstOf (guardTests p h) ≡ 38
-    unfolding firstOf
-    not-ready f = rw (e, f)
-
-    module _ (f : unready p h ≡ false) where
-      pub too-much : overloaded (hclkHz p) h ≡ true → firstOf (guardTests p h) ≡ 39
-      unfolding firstOf
-      too-much g = rw (e, f, g)
-
-      pub passes : overloaded (hclkHz p) h ≡ false → firstOf (guardTests p h) ≡ 0
-      unfolding firstOf
-      passes g = rw (e, f, g)
-
--- the plan's, then its own, on the bytes
 module _ (pb b j a : List ℕ) {o : Admitted} (x : Admits (answersTests b j a) b o) {q : Planned} (y : Plans pb q) (z : o .refusal ≡ 0) where
   pub tests-plan : (q .refusal ≡ 0 → ⊥) → firstOf (changeTests pb b) ≡ q .refusal
   tests-plan n =

@@ -20,7 +20,7 @@ fn lpsys_hclk(buffer: &[u8]) -> MaybeHertz
 
 fn set(buffer: &mut [u8], freq: Megahertz) {
     let mut journal = [0u32; call::JOURNAL_WORDS];
-    let answer = clock_lpsys::config_lpsys_hclk_mhz(buffer, freq, &mut journal);
+    let answer = lpsys_frequency::config_lpsys_hclk_mhz(buffer, freq, &mut journal);
     let entries = answer.entries;
     report::steps(&journal[..entries]);
     report::result(answer.refusal, lpsys_hclk(buffer));

@@ -2,52 +2,9 @@
 ghost use mathlib.Core.Path.{_≡_};
 ghost use Prim.Native.Nat.{_≤_};
 ghost use lib.ListN.{length};
-ghost use Rattle.head.specs.Encodable.{Encodable};
-ghost use Rattle.journal.specs.Machine.{Ran, Quietly, Ready, Kept};
-ghost use Rattle.lpsys_wake.specs.Wake.{countUp, countDown, wakeFirst, wake, cancel};
+ghost use Rattle.journal.specs.Machine.{Ran, Ready, Kept};
+ghost use Rattle.lpsys_wake.specs.Wake.{wakeFirst, wake, cancel};
 use journal::Machine;
-
-fn count_up(m: Machine) -> Machine
-    requires { ⌜ Encodable (m .head) ⌝ }
-    ensures { λ r. ⌜ Quietly countUp m r ⌝ }
-    ensures { λ r. ⌜ Kept 0 m r ⌝ }
-    ensures { λ r. ⌜ r .taken ≡ m .taken ⌝ }
-{
-    let ended = m.stop;
-    if ended != 0 {
-        return m;
-    }
-    let mut head = m.head;
-    let count = head.wake_count;
-    head.wake_count = ((count as u32 + 1) % 256) as u8;
-    Machine {
-        head,
-        at: m.at,
-        taken: m.taken,
-        stop: 0,
-    }
-}
-
-fn count_down(m: Machine) -> Machine
-    requires { ⌜ Encodable (m .head) ⌝ }
-    ensures { λ r. ⌜ Quietly countDown m r ⌝ }
-    ensures { λ r. ⌜ Kept 0 m r ⌝ }
-    ensures { λ r. ⌜ r .taken ≡ m .taken ⌝ }
-{
-    let stop = m.stop;
-    if stop != 0 {
-        return m;
-    }
-    let mut head = m.head;
-    let count = head.wake_count;
-    head.wake_count = ((count as u32 + 255) % 256) as u8;
-    Machine {
-        head,
-        at: m.at,
-        taken: m.taken,
-        stop: 0,
-    }
-}
 
 // The request, and the first wait for the LPSYS core to be active.
 fn wake_first(m: Machine, journal: &mut [u32], answers: &[u16]) -> Machine
@@ -71,7 +28,7 @@ pub fn wake(m: Machine, journal: &mut [u32], answers: &[u16]) -> Machine
     let m = wake_first(m, journal, answers);
     let m = journal::delay_us(m, journal, 30);
     let m = waits::wait_for(m, journal, answers, 6);
-    count_up(m)
+    wake_count::count_up(m)
 }
 
 pub fn cancel(m: Machine, journal: &mut [u32]) -> Machine
@@ -81,7 +38,7 @@ pub fn cancel(m: Machine, journal: &mut [u32]) -> Machine
 {
     let head = m.head;
     let count = head.wake_count;
-    let m = count_down(m);
+    let m = wake_count::count_down(m);
     if count == 1 {
         return m.store(journal, 33, 0);
     }

@@ -1,30 +1,17 @@
--- What every call has in common. Assumes nothing.
+-- What every call leaves: its entries lie in the journal. Assumes nothing.
 use Prim.Native.Nat.{ℕ, _≤_}
 use mathlib.Core.List.{List}
-use native.Mathlib.Omega.{arith}
 use lib.ListN.{length}
 use Rattle.call.specs.declared.Answer.{Answer}
 use Rattle.call.specs.Call.{Answers}
 use Rattle.call.proofs.Entries.{performed-within}
 use Rattle.lpsys_dividers.specs.Dividers.{setLpsysHdiv, setLpsysDiv, configMac}
 use Rattle.lpsys_selects.specs.Selects.{select}
-use Rattle.clock_lpsys.specs.Calls.{lpsysRequest, safeFrequency, wakeLcpu, cancelLcpu, ensureHxt48}
-use Rattle.named.specs.declared.Call.{Call}
-use Rattle.named.specs.declared.Call.the-variants.{Request, Safe, Wake, Cancel, Hxt48, Hdiv, Div, Mac, Sysclk, Peri}
-use Rattle.named.specs.Calls.{formOf, resultOf}
-
--- no call is given more than three numbers
-pub numbers-most : (call : Call) → formOf call .numbers ≤ 3
-numbers-most Request = omega arith
-numbers-most Safe = omega arith
-numbers-most Wake = omega arith
-numbers-most Cancel = omega arith
-numbers-most Hxt48 = omega arith
-numbers-most Hdiv = omega arith
-numbers-most Div = omega arith
-numbers-most Mac = omega arith
-numbers-most Sysclk = omega arith
-numbers-most Peri = omega arith
+use Rattle.lpsys_frequency.specs.Calls.{lpsysRequest, safeFrequency}
+use Rattle.clock_lpsys.specs.Calls.{wakeLcpu, cancelLcpu, ensureHxt48}
+use Rattle.lpsys_names.specs.declared.Call.{Call}
+use Rattle.lpsys_names.specs.declared.Call.the-variants.{Request, Safe, Wake, Cancel, Hxt48, Hdiv, Div, Mac, Sysclk, Peri}
+use Rattle.named.specs.Calls.{resultOf}
 
 result-within : (call : Call) (ns b j a : List ℕ) → resultOf call ns b j a .entries ≤ length (resultOf call ns b j a .journal)
 unfolding lpsysRequest safeFrequency wakeLcpu cancelLcpu ensureHxt48 setLpsysHdiv setLpsysDiv configMac select

@@ -1,141 +1,35 @@
-// The calls that lines name: the arguments that a line has of each, and how each runs.
-ghost use mathlib.Core.Path.{_≡_};
-ghost use mathlib.Core.Bool.{false};
+// The LPSYS calls run by name.
 ghost use Rattle.call.specs.Call.{Answers};
-ghost use Rattle.named.specs.Calls.{formOf, resultOf, Fits, NamedIs};
+ghost use Rattle.lpsys_names.specs.Names.{Fits};
+ghost use Rattle.named.specs.Calls.{resultOf};
 use call::Answer;
+use lpsys_names::Call;
 use time::Megahertz;
 
-pub enum Call {
-    Request,
-    Safe,
-    Wake,
-    Cancel,
-    Hxt48,
-    Hdiv,
-    Div,
-    Mac,
-    Sysclk,
-    Peri,
-}
-
-pub enum Named {
-    Call(Call),
-    Unknown,
-}
-
-// What a line gives a call beside a head: so many numbers, none above `most`, and perhaps answers.
-pub struct Form {
-    pub numbers: usize,
-    pub most: u32,
-    pub answers: bool,
-}
-
-pub fn find(name: &[u8]) -> Named
-    ensures { λ r. ⌜ NamedIs r (now (name .entry)) ⌝ }
+// Runs a call on the numbers of a line.
+pub fn run(
+    call: Call,
+    numbers: [u32; 3],
+    buffer: &mut [u8],
+    journal: &mut [u32],
+    answers: &[u16],
+) -> Answer
+    requires { ⌜ Fits call numbers ⌝ }
+    ensures { λ r. ⌜ Answers (resultOf call numbers (now (buffer .entry)) (now (journal .entry)) (now (answers .entry))) r (now (buffer .exit)) (now (journal .exit)) ⌝ }
 {
-    if check::same(name, b"request") {
-        return Named::Call(Call::Request);
-    }
-    if check::same(name, b"safe") {
-        return Named::Call(Call::Safe);
-    }
-    if check::same(name, b"wake") {
-        return Named::Call(Call::Wake);
-    }
-    if check::same(name, b"cancel") {
-        return Named::Call(Call::Cancel);
-    }
-    if check::same(name, b"hxt48") {
-        return Named::Call(Call::Hxt48);
-    }
-    find_setter(name)
-}
-
-fn find_setter(name: &[u8]) -> Named
-    ensures { λ r. ⌜ NamedIs r (now (name .entry)) ⌝ }
-{
-    if check::same(name, b"hdiv") {
-        return Named::Call(Call::Hdiv);
-    }
-    if check::same(name, b"div") {
-        return Named::Call(Call::Div);
-    }
-    if check::same(name, b"mac") {
-        return Named::Call(Call::Mac);
-    }
-    if check::same(name, b"sysclk") {
-        return Named::Call(Call::Sysclk);
-    }
-    if check::same(name, b"peri") {
-        return Named::Call(Call::Peri);
-    }
-    Named::Unknown
-}
-
-fn lent(answers: bool) -> Form
-    ensures { λ r. ⌜ r ≡ record { numbers = 0; most = 0; answers = answers } ⌝ }
-{
-    Form {
-        numbers: 0,
-        most: 0,
-        answers,
-    }
-}
-
-fn given(numbers: usize, most: u32) -> Form
-    ensures { λ r. ⌜ r ≡ record { numbers = numbers; most = most; answers = false } ⌝ }
-{
-    Form {
-        numbers,
-        most,
-        answers: false,
-    }
-}
-
-impl Call {
-    pub fn form(self) -> Form
-        ensures { λ r. ⌜ r ≡ formOf self ⌝ }
-    {
-        match self {
-            Call::Request => given(1, u32::MAX),
-            Call::Safe => lent(false),
-            Call::Wake => lent(true),
-            Call::Cancel => lent(false),
-            Call::Hxt48 => lent(true),
-            Call::Hdiv => given(1, 255),
-            Call::Div => given(3, 255),
-            Call::Mac => given(2, 255),
-            Call::Sysclk => given(1, 255),
-            Call::Peri => given(1, 255),
-        }
-    }
-
-    // Runs the call on the numbers of a line.
-    pub fn run(
-        self,
-        numbers: [u32; 3],
-        buffer: &mut [u8],
-        journal: &mut [u32],
-        answers: &[u16],
-    ) -> Answer
-        requires { ⌜ Fits self numbers ⌝ }
-        ensures { λ r. ⌜ Answers (resultOf self numbers (now (buffer .entry)) (now (journal .entry)) (now (answers .entry))) r (now (buffer .exit)) (now (journal .exit)) ⌝ }
-    {
-        let a = numbers[0];
-        let b = numbers[1];
-        let c = numbers[2];
-        match self {
-            Call::Request => clock_lpsys::config_lpsys_hclk_mhz(buffer, Megahertz(a), journal),
-            Call::Safe => clock_lpsys::ensure_safe_lcpu_frequency(buffer, journal),
-            Call::Wake => clock_lpsys::wake_lcpu(buffer, journal, answers),
-            Call::Cancel => clock_lpsys::cancel_lcpu_active_request(buffer, journal),
-            Call::Hxt48 => clock_lpsys::ensure_hxt48_ready(buffer, journal, answers),
-            Call::Hdiv => clock_lpsys::set_lpsys_hdiv(buffer, a as u8, journal),
-            Call::Div => clock_lpsys::set_lpsys_div(buffer, a as u8, b as u8, c as u8, journal),
-            Call::Mac => clock_lpsys::config_lpsys_mac_clock(buffer, a as u8, b as u8, journal),
-            Call::Sysclk => clock_lpsys::select_lpsys_sysclk(buffer, a as u8, journal),
-            Call::Peri => clock_lpsys::select_lpsys_peri(buffer, a as u8, journal),
-        }
+    let a = numbers[0];
+    let b = numbers[1];
+    let c = numbers[2];
+    match call {
+        Call::Request => clock_lpsys::config_lpsys_hclk_mhz(buffer, Megahertz(a), journal),
+        Call::Safe => clock_lpsys::ensure_safe_lcpu_frequency(buffer, journal),
+        Call::Wake => clock_lpsys::wake_lcpu(buffer, journal, answers),
+        Call::Cancel => clock_lpsys::cancel_lcpu_active_request(buffer, journal),
+        Call::Hxt48 => clock_lpsys::ensure_hxt48_ready(buffer, journal, answers),
+        Call::Hdiv => clock_lpsys::set_lpsys_hdiv(buffer, a as u8, journal),
+        Call::Div => clock_lpsys::set_lpsys_div(buffer, a as u8, b as u8, c as u8, journal),
+        Call::Mac => clock_lpsys::config_lpsys_mac_clock(buffer, a as u8, b as u8, journal),
+        Call::Sysclk => clock_lpsys::select_lpsys_sysclk(buffer, a as u8, journal),
+        Call::Peri => clock_lpsys::select_lpsys_peri(buffer, a as u8, journal),
     }
 }

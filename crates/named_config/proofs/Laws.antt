@@ -16,9 +16,10 @@ use Rattle.clock_switch.specs.Switch.{toPlan}
 use Rattle.clock_init.specs.Init.{init}
 use Rattle.call_clocks.specs.Clocks.{withAudioOf}
 use Rattle.guard.specs.Guard.{changeCall}
-use Rattle.clock_config.specs.Calls.{calibration, headAfter, initCall, initClocks, reconfigureCall, reconfigureClocks}
-use Rattle.named_config.specs.declared.Call.{Call}
-use Rattle.named_config.specs.declared.Call.the-variants.{Calibrate, Init, Reconfigure, Change}
+use Rattle.calibration_call.specs.Calibration.{calibration}
+use Rattle.clock_config.specs.Calls.{headAfter, initCall, initClocks, reconfigureCall, reconfigureClocks}
+use Rattle.config_names.specs.declared.Call.{Call}
+use Rattle.config_names.specs.declared.Call.the-variants.{Calibrate, Init, Reconfigure, Change}
 use Rattle.named_config.specs.Calls.{resultOf, clocksAfter}
 
 result-within : (call : Call) (pb b j a : List ℕ) → resultOf call pb b j a .entries ≤ length (resultOf call pb b j a .journal)

@@ -10,7 +10,7 @@ use Rattle.task.specs.declared.Task.{Task}
 use Rattle.booking.specs.Booking.{book}
 use Rattle.release.specs.Release.{release}
 use Rattle.text.specs.Text.{Puts}
-use Rattle.answered.specs.Left.{leftText, resultText}
+use Rattle.call_text.specs.Left.{leftText, resultText}
 use Rattle.named_tasks.specs.declared.Call.{Call}
 use Rattle.named_tasks.specs.declared.Call.the-variants.{Book, Release, Load}
 use Rattle.named_tasks.specs.Calls.{countOf}

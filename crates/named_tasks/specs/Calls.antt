@@ -7,7 +7,7 @@ use Rattle.task.specs.declared.Task.{Task}
 use Rattle.load_check.specs.LoadCheck.{loadCheck}
 use Rattle.booking.specs.Booking.{book}
 use Rattle.release.specs.Release.{release}
-use Rattle.answered.specs.Left.{number, resultText}
+use Rattle.call_text.specs.Left.{number, resultText}
 use Rattle.named_tasks.specs.declared.Call.{Call}
 use Rattle.named_tasks.specs.declared.Call.the-variants.{Book, Release, Load}
 use Rattle.named_tasks.specs.declared.Named.{Named}

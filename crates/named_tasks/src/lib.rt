@@ -4,7 +4,6 @@ ghost use mathlib.Core.Path.{_≡_};
 ghost use lib.ListN.{length, getD};
 ghost use Rattle.text.specs.Text.{Puts};
 ghost use Rattle.named_tasks.specs.Calls.{NamedIs, countOf, checkedText, leftBy};
-use answered::left;
 
 pub enum Call {
     Book,
@@ -66,11 +65,11 @@ impl Call {
         match self {
             Call::Book => {
                 let answer = booking::book(bytes, id, cycles, period);
-                left::put_left(answer, bytes, &none, text, at)
+                call_text::put_left(answer, bytes, &none, text, at)
             }
             Call::Release => {
                 let answer = release::release(bytes, id);
-                left::put_left(answer, bytes, &none, text, at)
+                call_text::put_left(answer, bytes, &none, text, at)
             }
             Call::Load => put_checked(bytes, text, at),
         }

@@ -6,10 +6,12 @@ use native.Mathlib.Omega.{arith}
 use lib.ListN.{length, take, getD, replicate, List·getD-append}
 use Rattle.call.specs.declared.Answer.{Answer}
 use Rattle.call.specs.Call.{Answers}
-use Rattle.named.specs.declared.Call.{Call}
-use Rattle.named.specs.declared.Form.{Form}
-use Rattle.named.specs.Calls.{nameOf, formOf, resultOf, Fits}
-use Rattle.answered.specs.Left.{unused, joined, leftText}
+use Rattle.lpsys_names.specs.declared.Call.{Call}
+use Rattle.lpsys_names.specs.declared.Form.{Form}
+use Rattle.lpsys_names.specs.Names.{nameOf, formOf, Fits}
+use Rattle.named.specs.Calls.{resultOf}
+use Rattle.answered.specs.Left.{unused}
+use Rattle.call_text.specs.Left.{joined, leftText}
 use Rattle.recorded.specs.CallLine.{givenText, lineOf}
 
 -- numbers that were read into the front of others fit a call

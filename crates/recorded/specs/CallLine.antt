@@ -5,9 +5,11 @@ use mathlib.Core.Bool.{Bool}
 use mathlib.Core.List.{List, _++_}
 use lib.ListN.{take, replicate}
 use Rattle.text.specs.Decimal.{numbersOf}
-use Rattle.answered.specs.Left.{unused, joined, bytes, answersText, resultText}
-use Rattle.named.specs.declared.Call.{Call}
-use Rattle.named.specs.Calls.{nameOf, formOf, resultOf}
+use Rattle.answered.specs.Left.{unused}
+use Rattle.call_text.specs.Left.{joined, bytes, answersText, resultText}
+use Rattle.lpsys_names.specs.declared.Call.{Call}
+use Rattle.lpsys_names.specs.Names.{nameOf, formOf}
+use Rattle.named.specs.Calls.{resultOf}
 
 -- what a call is given: name, numbers, buffer, and answers where they are lent
 abbrev pub givenText : List ℕ → List ℕ → List ℕ → Bool → List ℕ → List ℕ

@@ -9,9 +9,9 @@ ghost use mathlib.Core.Bool.{true};
 ghost use lib.ListN.{length, take};
 ghost use Rattle.fields.specs.Hex.{FieldWithin};
 ghost use Rattle.text.specs.Text.{Puts};
-ghost use Rattle.named.specs.Calls.{nameOf, Fits};
+ghost use Rattle.lpsys_names.specs.Names.{nameOf, Fits};
 ghost use Rattle.answered.specs.Answer.{AnswerWithin};
-ghost use Rattle.answered.specs.Left.{joined};
+ghost use Rattle.call_text.specs.Left.{joined};
 ghost use Rattle.recorded.specs.CallLine.{givenText, lineOf, Recorded};
 use answered::Outcome;
 use answered::left;
@@ -19,8 +19,8 @@ use fields::decimal;
 use fields::decimal::Numbers;
 use fields::hex;
 use fields::hex::Field;
-use named::Call;
-use named::Named;
+use lpsys_names::Call;
+use lpsys_names::Named;
 
 // Puts what a call is given.
 fn put_given(
@@ -63,8 +63,8 @@ fn run_line(
     let count = form.numbers;
     let given = put_given(name, &numbers[..count], buffer, form.answers, answers, text);
     let mut journal = [left::UNUSED; 128];
-    let answer = call.run(numbers, buffer, &mut journal, words);
-    let end = left::put_left(answer, buffer, &journal, text, given);
+    let answer = named::run(call, numbers, buffer, &mut journal, words);
+    let end = call_text::put_left(answer, buffer, &journal, text, given);
     left::compare(line, &journal, answer.entries, text, given, end)
 }
 
@@ -86,14 +86,14 @@ fn answers_line(
 {
     let form = call.form();
     let mut bytes = [0u8; 2048];
-    match left::decode_optional(form.answers, line, at, &mut bytes) {
+    match call_text::decode_optional(form.answers, line, at, &mut bytes) {
         Field::Malformed => Outcome::Malformed,
         Field::Bytes { count, next } => {
             if count % 2 != 0 || !hex::is_blank(line, next) {
                 return Outcome::Malformed;
             }
             let mut words = [0u16; 1024];
-            let answers = left::join(&bytes[..count], &mut words);
+            let answers = call_text::join(&bytes[..count], &mut words);
             run_line(
                 call,
                 numbers,
@@ -154,7 +154,7 @@ pub fn call_line(line: &[u8], text: &mut [u8]) -> Outcome
     ensures { λ r. ⌜ (r ≡ Outcome.Same → Recorded (now (line .entry))) ⌝ }
 {
     let end = hex::end_of(line, 0);
-    match named::find(&line[..end]) {
+    match lpsys_names::find(&line[..end]) {
         Named::Unknown => Outcome::Malformed,
         Named::Call(call) => numbers_line(call, &line[..end], line, end, text),
     }

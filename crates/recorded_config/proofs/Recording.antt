@@ -6,10 +6,13 @@ use mathlib.Core.List.{List, _++_}
 use lib.ListN.{replicate}
 use Rattle.call.specs.declared.Answer.{Answer}
 use Rattle.call.specs.Call.{Answers}
-use Rattle.answered.specs.Left.{unused, joined, leftText}
-use Rattle.named_config.specs.declared.Call.{Call}
-use Rattle.named_config.specs.Calls.{nameOf, leavesClocks, resultOf, clocksAfter}
-use Rattle.recorded_config.specs.ConfigLine.{clocksText, givenText, lineOf}
+use Rattle.answered.specs.Left.{unused}
+use Rattle.call_text.specs.Left.{joined, leftText}
+use Rattle.config_names.specs.declared.Call.{Call}
+use Rattle.config_names.specs.Names.{nameOf, leavesClocks}
+use Rattle.config_fields.specs.Given.{clocksText, givenText}
+use Rattle.named_config.specs.Calls.{resultOf, clocksAfter}
+use Rattle.recorded_config.specs.ConfigLine.{lineOf}
 
 -- what is put of a call, given and left, is its line
 pub line-is : (call : Call) (former pb b a name words b' j' clocks : List ℕ) (has : Bool) (r : Answer) → name ≡ nameOf call → words ≡ joined a →

@@ -4,7 +4,7 @@ use mathlib.Core.Path.{_≡_}
 use mathlib.Core.List.{List, _++_}
 use lib.ListN.{take, getD}
 use Rattle.text.specs.Decimal.{numbersOf}
-use Rattle.answered.specs.Left.{bytes}
+use Rattle.call_text.specs.Left.{bytes}
 use Rattle.named_tasks.specs.declared.Call.{Call}
 use Rattle.named_tasks.specs.Calls.{nameOf, countOf, leftBy}
 

@@ -1,10 +1,11 @@
 // A file of records, replayed line by line.
-use crate::kind::Kind;
-use crate::report;
-use crate::tally::Tally;
+use crate::records;
 use answered::Outcome;
 use lines::Line;
 use lines::Reader;
+use replay_report::Kind;
+use replay_report::Tally;
+use replay_report::report;
 
 // How many of the differing lines are shown.
 const SHOWN: u64 = 10;
@@ -13,7 +14,7 @@ const SHOWN: u64 = 10;
 fn replay_line(kind: Kind, number: u64, tally: Tally, line: &[u8]) -> Tally {
     // As long as the line buffer, so longer than any recorded answer.
     let mut text = [0u8; 4096];
-    match kind.replay(line, &mut text) {
+    match records::replay(kind, line, &mut text) {
         Outcome::Same => tally.one_replayed(),
         Outcome::Different { from, to } => {
             if tally.different < SHOWN {

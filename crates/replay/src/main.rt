@@ -3,11 +3,9 @@
 // answered (crates `recorded`, `recorded_config` and `recorded_tasks`). Our answer to the same is
 // compared with the recorded one, and of each file the program says how many lines differ.
 mod files;
-mod kind;
-mod report;
-mod tally;
+mod records;
 
-use kind::Kind;
+use replay_report::Kind;
 
 fn main() {
     files::replay(Kind::Plans, b"plans.txt");

@@ -1,6 +1,7 @@
 // The calls of rcc/clock_config.rs.
 ghost use mathlib.Core.Path.{_≡_};
-ghost use Rattle.clock_config.specs.Calls.{calibration, initCall, initClocks, reconfigureCall, reconfigureClocks};
+ghost use Rattle.calibration_call.specs.Calibration.{calibration};
+ghost use Rattle.clock_config.specs.Calls.{initCall, initClocks, reconfigureCall, reconfigureClocks};
 ghost use Rattle.answer_word.specs.Word.{Gives};
 
 #[no_mangle]

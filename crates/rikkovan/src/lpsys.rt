@@ -1,5 +1,6 @@
 // The LPSYS calls.
-ghost use Rattle.clock_lpsys.specs.Calls.{lpsysRequest, safeFrequency, wakeLcpu, cancelLcpu, ensureHxt48};
+ghost use Rattle.lpsys_frequency.specs.Calls.{lpsysRequest, safeFrequency};
+ghost use Rattle.clock_lpsys.specs.Calls.{wakeLcpu, cancelLcpu, ensureHxt48};
 ghost use Rattle.lpsys_dividers.specs.Dividers.{setLpsysHdiv, setLpsysDiv, configMac};
 ghost use Rattle.lpsys_selects.specs.Selects.{selectSysclk, selectPeri};
 ghost use Rattle.answer_word.specs.Word.{Gives};

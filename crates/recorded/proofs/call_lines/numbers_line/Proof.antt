@@ -1,6 +1,6 @@
 -- `recorded::call_lines::numbers_line` meets its contract: the numbers are the line's, and fit the call. Assumes nothing.
 use mathlib.Core.List.{[], _∷_}
-use Rattle.named.proofs.Laws.{numbers-most}
+use Rattle.lpsys_names.proofs.Laws.{numbers-most}
 use Rattle.recorded.proofs.Recording.{fits}
 use lib.Seq.{length-take-le}
 use native.Mathlib.Omega.{arith}

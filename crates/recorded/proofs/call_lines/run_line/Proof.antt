@@ -1,5 +1,6 @@
 -- `recorded::call_lines::run_line` meets its contract: the text is that of the call, given and left. Assumes nothing.
-use Rattle.named.proofs.Laws.{numbers-most, entries-within}
+use Rattle.lpsys_names.proofs.Laws.{numbers-most}
+use Rattle.named.proofs.Laws.{entries-within}
 use Rattle.answered.proofs.Comparing.{same-line}
 use Rattle.recorded.proofs.Recording.{line-is}
 use lib.Seq.{length-take-le}

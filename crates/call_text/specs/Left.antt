@@ -1,0 +1,39 @@
+-- What a call on a head is given and left, as text. Assumes nothing.
+use Prim.Native.Nat.{ℕ}
+use mathlib.Core.Bool.{Bool, true, false}
+use mathlib.Core.List.{List, [], _∷_, _++_}
+use lib.ListN.{take}
+use Rattle.record.specs.Bytes.{twoBytes}
+use Rattle.call.specs.Call.{Result}
+use Rattle.call.specs.declared.Answer.{Answer}
+use Rattle.text.specs.Decimal.{decimalOf}
+use Rattle.text.specs.Hex.{hexField}
+
+-- answers, which stand in a line as two bytes each
+unfoldable pub joined : List ℕ → List ℕ
+joined [] = []
+joined (high ∷ []) = []
+joined (high ∷ low ∷ bytes) = twoBytes high low ∷ joined bytes
+
+-- a number, bytes and words, each after a blank
+abbrev pub number : ℕ → List ℕ
+number n = 32 ∷ decimalOf n
+
+abbrev pub bytes : List ℕ → List ℕ
+bytes s = 32 ∷ hexField 2 s
+
+abbrev pub words : List ℕ → List ℕ
+words s = 32 ∷ hexField 8 s
+
+-- answers, where they are lent
+abbrev pub answersText : Bool → List ℕ → List ℕ
+answersText true a = bytes a
+answersText false a = []
+
+-- what it leaves: refusal, value, counts of entries and of answers taken, the entries, the buffer
+abbrev pub leftText : Answer → List ℕ → List ℕ → List ℕ
+leftText r b j =
+    number (r .refusal) ++ (number (r .value) ++ (number (r .entries) ++ (number (r .taken) ++ (words (take (r .entries) j) ++ bytes b))))
+
+abbrev pub resultText : Result → List ℕ
+resultText o = leftText (record { refusal = o .refusal; value = o .value; entries = o .entries; taken = o .taken }) (o .buffer) (o .journal)

@@ -1,0 +1,34 @@
+-- What the calls that set the frequency of LPSYS leave, on the bytes lent to them. Assumes nothing.
+use Prim.Native.Nat.{ℕ}
+use mathlib.Core.Bool.{Bool, true, false, _||_}
+use mathlib.Core.List.{List, [], _∷_}
+use lib.Dec.{eqb, ltb}
+use Rattle.time.specs.declared.Reading.{Reading}
+use Rattle.time.specs.declared.Reading.the-variants.{At, Unreadable}
+use Rattle.time.specs.Frequency.{hzOr}
+use Rattle.record.specs.Refusals.{refuse}
+use Rattle.head.specs.Head.{headOf}
+use Rattle.lpsys_read.specs.Lpsys.{lpsysHclkOf}
+use Rattle.call.specs.Call.{Result, journalCall}
+use Rattle.lpsys_request.specs.Request.{request, slowDown}
+
+-- `config_lpsys_hclk_mhz`; "15 LPSYS request 0 or above 48"
+abbrev pub outOfRange : ℕ → Bool
+outOfRange f = eqb f 0 || ltb 48 f
+
+abbrev pub requestTests : ℕ → List ℕ
+requestTests f = refuse 15 (outOfRange f) ∷ []
+
+unfoldable pub lpsysRequest : ℕ → List ℕ → List ℕ → Result
+lpsysRequest f b j = journalCall (requestTests f) (request f) 0 b j
+
+-- `ensure_safe_lcpu_frequency`, "answers the old frequency"; "43 `ensure_safe_lcpu_frequency` with LPSYS HCLK unreadable"
+abbrev pub isNone : Reading → Bool
+isNone (At f) = false
+isNone Unreadable = true
+
+abbrev pub safeTests : List ℕ → List ℕ
+safeTests b = refuse 43 (isNone (lpsysHclkOf (headOf b))) ∷ []
+
+unfoldable pub safeFrequency : List ℕ → List ℕ → Result
+safeFrequency b j = journalCall (safeTests b) slowDown (hzOr 0 (lpsysHclkOf (headOf b))) b j
