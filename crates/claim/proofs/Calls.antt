@@ -44,7 +44,7 @@ use Rattle.release.specs.Release.{releaseTests, release}
 use Rattle.release.proofs.Laws.{passed-has}
 use Rattle.lpsys_request.specs.Request.{request}
 use Rattle.lpsys_frequency.specs.Calls.{outOfRange, requestTests, lpsysRequest}
-use Rattle.guard_steps.specs.Steps.{change}
+use Rattle.guard_halves.specs.Change.{change}
 use Rattle.guard_safe.specs.Moment.{Ready, stopFor}
 use Rattle.guard_safe.proofs.View.{begun}
 use Rattle.guard_safe.proofs.Change.{Changed, change-moments}

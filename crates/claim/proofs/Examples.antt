@@ -37,7 +37,9 @@ use Rattle.rail.specs.Rail.{met, higher, railLimit}
 use Rattle.fit.specs.Fit.{lit, fits}
 use Rattle.dll.specs.Dll.{hpbgOn, vddpswOn, dllOff, dllOn, relocked, setDll, configureDll}
 use Rattle.core_clock.specs.CoreClock.{dividers}
-use Rattle.guard_steps.specs.Steps.{modeAt, highest, peakOf, raise, leaveDll1, toHxt48, toPlanned, backTo, change}
+use Rattle.guard_supply.specs.Supply.{modeAt, highest, peakOf, raise}
+use Rattle.guard_steps.specs.Steps.{leaveDll1, toHxt48, toPlanned, backTo}
+use Rattle.guard_halves.specs.Change.{change}
 use Rattle.guard.specs.Guard.{changeCall}
 use Rattle.lpsys_modes.specs.Modes.{dividerFor, presentMode, requestMode}
 use Rattle.lpsys_request.specs.Request.{setHdiv, request}

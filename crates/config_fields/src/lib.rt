@@ -62,7 +62,8 @@ fn clocks_from(bytes: [u8; 60]) -> [u32; 15] {
     clocks
 }
 
-// The fields of a line, by the count of their bytes; `whole` where the line has them all.
+// The former clocks of a line, and how many bytes its other fields have; `whole` where the line has
+// them all.
 pub struct Given {
     pub whole: bool,
     pub plan: usize,

@@ -6,7 +6,7 @@ ghost use lib.ListN.{length};
 ghost use Rattle.plan.specs.Plan.{legal};
 ghost use Rattle.plan_clocks.specs.Clocks.{hclkHz};
 ghost use Rattle.journal.specs.Machine.{Ran, Ready, Kept};
-ghost use Rattle.guard_steps.specs.Steps.{change};
+ghost use Rattle.guard_halves.specs.Change.{change};
 use journal::Machine;
 use plan::Plan;
 use time::Hertz;

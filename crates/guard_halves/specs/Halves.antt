@@ -1,4 +1,4 @@
--- The eight steps of the guarded change in two halves: `steps` of guard_steps is one after the other. Assumes nothing.
+-- The eight steps of the guarded change in two halves: `steps` is one after the other. Assumes nothing.
 use Prim.Native.Nat.{ℕ}
 use mathlib.Core.List.{List}
 use Rattle.plan.specs.declared.Plan.{Plan}
@@ -6,7 +6,8 @@ use Rattle.plan_clocks.specs.Clocks.{hclkHz}
 use Rattle.journal.specs.Run.{Effect, _▸_}
 use Rattle.dvfs.specs.declared.hpsys.HpsysDvfsMode.{HpsysDvfsMode}
 use Rattle.core_clock.specs.CoreClock.{plannedDll1, dividers}
-use Rattle.guard_steps.specs.Steps.{modeAt, raise, settle, leaveDll1, toHxt48, toPlanned, backTo}
+use Rattle.guard_supply.specs.Supply.{modeAt, raise, settle}
+use Rattle.guard_steps.specs.Steps.{leaveDll1, toHxt48, toPlanned, backTo}
 
 -- steps (1) to (4)
 abbrev pub leave : HpsysDvfsMode → Plan → List ℕ → Effect

@@ -15,7 +15,7 @@ use Rattle.hpsys_volts.specs.HpsysVolts.{vrefOf, sxModeVolt, timing}
 use Rattle.hpsys_volts.proofs.Rows.{buck-fits, ldo-fits, vref-fits, timing-fits, supply-fits}
 use Rattle.hpsys_switch.specs.HpsysSwitch.{d2sFirst, s2dFirst, s2dSecond}
 use Rattle.rail.specs.Rail.{limitHz, ldoOf, railOf, railLimit}
-use Rattle.guard_steps.specs.Steps.{raising, raise, settle}
+use Rattle.guard_supply.specs.Supply.{raising, raise, settle}
 use Rattle.guard_safe.proofs.Rails.{Of, first, second, buck, up-s, down-s, at-s, up-d, down-d, at-d}
 use Rattle.guard_safe.proofs.View.{Regs, put, rail}
 use Rattle.guard_safe.proofs.Came.{Came, came-now, came-store, came-delay, came-if}
