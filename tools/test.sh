@@ -56,8 +56,16 @@ has_memory_folder() {
     return "$status"
 }
 
+# rt starts the next checks when all of those that it started have ended, so three to a processor keep it busy; each may take 2 GiB.
+jobs() {
+    local wanted=$((3 * $(nproc))) room
+    room=$(awk '/^MemAvailable:/ { print int($2 / 2097152) }' /proc/meminfo)
+    echo $((room < 1 ? 1 : room < wanted ? room : wanted))
+}
+
 # A check copies the libraries below its crate, some 100 MB, to a temporary folder; one in memory saves a second of each.
 rt_ci() {
+    export RT_JOBS=${RT_JOBS:-$(jobs)}
     if [ -z "${TMPDIR:-}" ] && has_memory_folder; then
         export TMPDIR=/dev/shm
     fi
