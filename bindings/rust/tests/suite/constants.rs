@@ -60,13 +60,46 @@ fn constants() -> BTreeMap<String, u64> {
         .collect()
 }
 
-/// Codes of registers and numbers of entries, for which the crate has no name, and places.
+/// What the header names and the crate does not: codes of bytes that are plain numbers here, limits
+/// that the types have, and the rows of the supply modes.
+const UNNAMED: [&str; 29] = [
+    "BOOT_STANDBY",
+    "D0_BUCK",
+    "D0_LDO",
+    "D1_BUCK",
+    "D1_LDO",
+    "ENTRY_DELAY",
+    "ENTRY_WAIT",
+    "HPSYS_SUPPLY_D",
+    "HPSYS_SUPPLY_S",
+    "LPSYS_MOST_MHZ",
+    "LPSYS_SUPPLY_D",
+    "LPSYS_SUPPLY_S",
+    "LRC10_HZ",
+    "LRC32_HZ",
+    "MHZ",
+    "MOST_PDIV",
+    "MOST_PERIOD_US",
+    "MOST_STAGE",
+    "MOST_TRIM",
+    "MOST_USB_DIVIDER",
+    "MOST_VOLTAGE",
+    "MPI_RESERVED",
+    "NOT_READY",
+    "READY",
+    "REGISTERS",
+    "S0_BUCK",
+    "S0_LDO",
+    "S1_BUCK",
+    "S1_LDO",
+];
+
+/// These, and the places in records.
 fn is_unnamed(name: &str) -> bool {
-    let codes = ["MPI_RESERVED", "LPSYS_SUPPLY_D", "LPSYS_SUPPLY_S"];
-    let numbers = ["ENTRY_DELAY", "ENTRY_WAIT"];
-    let records = ["PLAN_", "HEAD_", "TASK_"];
-    let places = records.iter().any(|record| name.starts_with(record));
-    codes.contains(&name) || numbers.contains(&name) || places && !name.ends_with("_BYTES")
+    let is_place = ["PLAN_", "HEAD_", "TASK_"]
+        .iter()
+        .any(|record| name.starts_with(record));
+    UNNAMED.contains(&name) || is_place && !name.ends_with("_BYTES")
 }
 
 #[test]
