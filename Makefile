@@ -52,7 +52,9 @@ help:
 
 lib: $(LIBRARY)
 
+# rt check proves several crates at a time, rt staticlib one after the other.
 $(LIBRARY): $(SOURCES)
+	test -d target/rlib/rikkovan.rlib || $(RT) check rikkovan
 	$(RT) staticlib rikkovan
 
 build/daemon: examples/daemon.c include/rikkovan.h $(LIBRARY)
