@@ -30,7 +30,7 @@ PLANS = $(sort $(wildcard examples/plans/*.plan))
 TASKS = $(sort $(wildcard examples/tasks/*.tasks))
 
 .DELETE_ON_ERROR:
-.PHONY: help lib run test measure test-c test-rust test-fuzz fuzz test-oracle oracle compare compare-quick compare-plans compare-heads evidence record bench plans tasks heads install uninstall clean
+.PHONY: help lib run test measure test-c test-rust test-programs test-fuzz fuzz test-oracle oracle compare compare-quick compare-plans compare-heads evidence record bench plans tasks heads install uninstall clean
 
 help:
 	@echo 'make run            prove the library, then check the example plans and tasks through it'
@@ -98,6 +98,10 @@ fuzz: build/fuzz
 test-fuzz: $(LIBRARY)
 	@CC='$(CC)' tests/fuzz/run.sh
 
+test-programs: $(PROGRAMS)
+	@tests/lpset/run.sh
+	@tests/moments/run.sh
+
 test-oracle:
 	cargo test $(WITH_ORACLE) --lib
 
@@ -108,13 +112,13 @@ compare: oracle
 	$(ORACLE) compare $(RANDOM_GROUPS)
 
 # Two halves that take about the same time, one for each of two cores.
-compare-quick: oracle
+compare-quick:
 	@$(MAKE) --no-print-directory --output-sync -j2 compare-plans compare-heads
 
-compare-plans:
+compare-plans: oracle
 	$(ORACLE) compare --quick --only plan --only config --only tasks
 
-compare-heads:
+compare-heads: oracle
 	$(ORACLE) compare --quick --only heads --only lpsys --only change
 
 evidence: oracle

@@ -7,7 +7,9 @@ exec </dev/null
 PATH=$PATH:${HOME:-/root}/.cargo/bin
 
 log=$(mktemp)
-trap 'rm -f "$log"' EXIT
+oracle_log=$(mktemp)
+oracle_tests=
+trap 'rm -f "$log" "$oracle_log"; [ -z "$oracle_tests" ] || kill "$oracle_tests" 2>/dev/null || true' EXIT
 
 say() { printf 'test: %s\n' "$*"; }
 
@@ -56,9 +58,9 @@ has_memory_folder() {
     return "$status"
 }
 
-# rt starts the next checks when all of those that it started have ended, so two to a processor keep it busy; each may take 2 GiB.
+# rt starts the next checks when all of those that it started have ended: with four to a processor few wait; each may take 2 GiB.
 jobs() {
-    local wanted=$((2 * $(nproc))) room
+    local wanted=$((4 * $(nproc))) room
     room=$(awk '/^MemAvailable:/ { print int($2 / 2097152) }' /proc/meminfo)
     echo $((room < 1 ? 1 : room < wanted ? room : wanted))
 }
@@ -79,33 +81,37 @@ has_cargo() { command -v cargo >/dev/null; }
 
 can_compare() { [ -d "$sources/sifli-hal/src" ] && has_cargo; }
 
-# The archive, and beside it the tests of the oracle, which do not link it.
-library() {
-    local tests=
-    if can_compare; then
-        part test-oracle &
-        tests=$!
-    fi
-    part lib || return
-    [ -z "$tests" ] || wait "$tests"
+# The tests of the oracle need nothing proved, and run on what the proofs leave of the processors.
+begin_oracle_tests() {
+    can_compare || return 0
+    nice -n 19 make --no-print-directory test-oracle >"$oracle_log" 2>&1 &
+    oracle_tests=$!
 }
 
-test_rust() {
-    if has_cargo; then
-        stage 'tests from Rust' part test-rust
-    else
-        say 'tests from Rust skipped: cargo is missing'
-    fi
+end_oracle_tests() {
+    [ -n "$oracle_tests" ] || return 0
+    local status=0
+    wait "$oracle_tests" || status=$?
+    oracle_tests=
+    cat "$oracle_log"
+    return "$status"
 }
 
-compare() {
+# What uses the proved library and programs, two parts at a time.
+test_proved() {
+    local parts=(lib test-programs test-c test-fuzz)
     if can_compare; then
-        stage 'comparison with the Rust' part compare-quick
-    elif [ ! -d "$sources/sifli-hal/src" ]; then
+        parts=(lib test-programs compare-plans compare-heads test-c test-rust test-fuzz)
+    elif has_cargo; then
+        parts+=(test-rust)
+    fi
+    part -j2 --output-sync "${parts[@]}"
+}
+
+say_skipped() {
+    has_cargo || say 'tests from Rust and comparison with the Rust skipped: cargo is missing'
+    [ -d "$sources/sifli-hal/src" ] ||
         say "comparison with the Rust skipped: no sources at $sources (SIFLI_SRC names their folder)"
-    else
-        say 'comparison with the Rust skipped: cargo is missing'
-    fi
 }
 
 need rt 'to prove the crates (the Rattle kit)'
@@ -114,14 +120,11 @@ need "${CC:-cc}" 'to test the library from C'
 need "${CXX:-g++}" 'to test the header from C++'
 [ "$(uname -m)" = x86_64 ] || fail 'the library links into x86-64 programs only'
 
+say_skipped
 stage 'list of crates' every_crate_is_listed
+begin_oracle_tests
 stage 'rt ci' rt_ci
-stage 'library, and tests of the oracle' library
-stage 'tests from C' part test-c
-test_rust
-stage 'fuzz' part test-fuzz
-stage 'tests of lpset' tests/lpset/run.sh
-stage 'tests of moments' tests/moments/run.sh
-compare
+stage 'tests of the oracle' end_oracle_tests
+stage 'tests of the library and the programs' test_proved
 say "all passed ($SECONDS s)"
 tail -n 1 "$log"

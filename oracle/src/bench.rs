@@ -181,7 +181,7 @@ fn readings() -> [Row; 4] {
     let clocks = |name, tasks| {
         let ours = |head: &Buffer| {
             let mut clocks = [0; 15];
-            black_box(bytes::read_clocks(head, &mut clocks));
+            let _ = black_box(bytes::read_clocks(head, &mut clocks));
             clocks
         };
         reading(name, tasks, ours, readings::clocks_in_place)
@@ -189,7 +189,7 @@ fn readings() -> [Row; 4] {
     let lpsys = |name, tasks| {
         let ours = |head: &Buffer| {
             let mut lpsys = [0; 6];
-            black_box(bytes::read_lpsys(head, &mut lpsys));
+            let _ = black_box(bytes::read_lpsys(head, &mut lpsys));
             lpsys
         };
         reading(name, tasks, ours, readings::lpsys_in_place)
