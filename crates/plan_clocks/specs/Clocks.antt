@@ -7,6 +7,7 @@ use Rattle.clock.specs.declared.MaybeDll.{MaybeDll}
 use Rattle.clock.specs.declared.MaybeDll.the-variants.{Absent, Present}
 use Rattle.clock.specs.Clock.{wholeHz, dllHz, divided, shifted}
 use Rattle.plan.specs.declared.Plan.{Plan}
+use Rattle.plan_clocks.specs.declared.Sources.{Sources}
 use Rattle.plan_clocks.specs.declared.Target.{Target}
 
 -- a DLL's frequency in Hz, whole or halved; of an absent one 0, which no test below asks for
@@ -37,6 +38,10 @@ pclk2Hz p = shifted (hclkHz p) (p .pdiv2)
 -- the USB source's clock: 0 the core's, 1 DLL2's
 unfoldable pub usbHz : Plan → ℕ
 usbHz p = cond (eqb (p .usbsel) 1) (maybeHz (p .dll2)) (sysHz p)
+
+-- the clocks that HCLK and USB are divided from
+unfoldable pub sourcesOf : Plan → Sources
+sourcesOf p = record { core = record { 0 = sysHz p }; usb = record { 0 = usbHz p } }
 
 -- the USB divider of a plan with usb, 0 of one without
 unfoldable pub usbDivider : Plan → ℕ

@@ -1,8 +1,9 @@
 // The clocks that a plan gives: rcc/clock_config.rs, `get_sysclk_freq_hz`, `get_hclk_freq_hz` and the sums in `check`.
 ghost use mathlib.Core.Path.{_≡_};
-ghost use Prim.Native.Nat.{_≤_};
+ghost use mathlib.Core.Bool.{cond};
+ghost use Prim.Native.Nat.{_≤_, _/_};
 ghost use Rattle.plan_code.specs.Code.{stageOf};
-ghost use Rattle.plan_clocks.specs.Clocks.{maybeHz, maybeWholeHz, sysHz, hclkHz, usbHz, usbDivider, targetOf};
+ghost use Rattle.plan_clocks.specs.Clocks.{maybeHz, maybeWholeHz, sysHz, usbHz, sourcesOf, targetOf};
 use clock::MaybeDll;
 use plan::Plan;
 use time::Hertz;
@@ -10,6 +11,12 @@ use time::Hertz;
 const DLL1: u8 = 3;
 
 const USB_DLL2: u8 = 1;
+
+// The clocks that HCLK and USB are divided from.
+pub struct Sources {
+    pub core: Hertz,
+    pub usb: Hertz,
+}
 
 // What an accepted plan gives. The USB divider of a plan without USB is 0.
 pub struct Target {
@@ -19,7 +26,7 @@ pub struct Target {
     pub usb_div: u8,
 }
 
-pub fn dll_freq(d: MaybeDll) -> Hertz
+fn dll_freq(d: MaybeDll) -> Hertz
     requires { ⌜ stageOf d ≤ 15 ⌝ }
     ensures { λ r. ⌜ r .0 ≡ maybeHz d ⌝ }
 {
@@ -43,7 +50,7 @@ pub fn dll_whole_freq(d: MaybeDll) -> Hertz
 }
 
 // The core clock: `get_sysclk_freq_hz`.
-pub fn sysclk(p: Plan) -> Hertz
+fn sysclk(p: Plan) -> Hertz
     requires { ⌜ stageOf (p .dll1) ≤ 15 ⌝ }
     ensures { λ r. ⌜ r .0 ≡ sysHz p ⌝ }
 {
@@ -55,50 +62,53 @@ pub fn sysclk(p: Plan) -> Hertz
     dll_freq(dll1)
 }
 
-// `get_hclk_freq_hz`.
-pub fn hclk(p: Plan) -> Hertz
-    requires { ⌜ stageOf (p .dll1) ≤ 15 ⌝ }
-    ensures { λ r. ⌜ r .0 ≡ hclkHz p ⌝ }
-{
-    clock::divide(sysclk(p), p.hdiv)
-}
-
 // The clock that USB is divided from.
-pub fn usb_source(p: Plan) -> Hertz
-    requires { ⌜ (stageOf (p .dll1) ≤ 15) × (stageOf (p .dll2) ≤ 15) ⌝ }
+fn usb_source(p: Plan, core: Hertz) -> Hertz
+    requires { ⌜ (stageOf (p .dll2) ≤ 15) × (core .0 ≡ sysHz p) ⌝ }
     ensures { λ r. ⌜ r .0 ≡ usbHz p ⌝ }
 {
     let usbsel = p.usbsel;
     if usbsel != USB_DLL2 {
-        return sysclk(p);
+        return core;
     }
     let dll2 = p.dll2;
     dll_freq(dll2)
 }
 
-// The USB divider of a plan with USB, 0 of one without.
-pub fn usb_divider(p: Plan) -> u8
+pub fn sources_of(p: Plan) -> Sources
     requires { ⌜ (stageOf (p .dll1) ≤ 15) × (stageOf (p .dll2) ≤ 15) ⌝ }
-    ensures { λ r. ⌜ r ≡ usbDivider p ⌝ }
+    ensures { λ r. ⌜ r ≡ sourcesOf p ⌝ }
 {
-    let usb = p.usb;
+    let core = sysclk(p);
+    Sources {
+        core,
+        usb: usb_source(p, core),
+    }
+}
+
+// The USB divider of a plan with USB, 0 of one without.
+fn usb_divider(usb: bool, source: Hertz) -> u8
+    ensures { λ r. ⌜ r ≡ cond usb (source .0 / 60000000) 0 ⌝ }
+{
     if !usb {
         return 0;
     }
-    let f = usb_source(p);
-    let hertz = f.0;
+    let hertz = source.0;
     (hertz / 60_000_000) as u8
 }
 
-pub fn target_of(p: Plan) -> Target
-    requires { ⌜ (stageOf (p .dll1) ≤ 15) × (stageOf (p .dll2) ≤ 15) ⌝ }
+// HCLK is that of `get_hclk_freq_hz`.
+pub fn target_of(p: Plan, sources: Sources) -> Target
+    requires { ⌜ sources ≡ sourcesOf p ⌝ }
     ensures { λ r. ⌜ r ≡ targetOf p ⌝ }
 {
-    let f = hclk(p);
+    let core = sources.core;
+    let source = sources.usb;
+    let hclk = clock::divide(core, p.hdiv);
     Target {
-        hclk: f,
-        pclk1: clock::prescale(f, p.pdiv1),
-        pclk2: clock::prescale(f, p.pdiv2),
-        usb_div: usb_divider(p),
+        hclk,
+        pclk1: clock::prescale(hclk, p.pdiv1),
+        pclk2: clock::prescale(hclk, p.pdiv2),
+        usb_div: usb_divider(p.usb, source),
     }
 }

@@ -95,3 +95,21 @@ plans-accepted pb p t d e =
       target-is = λ z. sym same;
       usb-is = λ z. rw (← ap (λ (w : Target). w .«usb_div») same) (usb-most p zero);
     }
+
+-- the verdict on bytes that are refused
+pub verdict-refused : (v : Verdict) (n : ℕ) → (n ≡ 0 → ⊥) → n ≡ numberOf v → Refused n ≡ v
+verdict-refused (Accepted t) n z e = absurd (z e)
+verdict-refused (Refused m) n z e = ap Refused e
+
+accepted : (p : Plan) → planRefusal p ≡ 0 → Accepted (targetOf p) ≡ verdictOf p
+unfolding verdictOf
+accepted p e = rw e refl
+
+-- and on those that are not
+pub verdict-accepted : (pb : List ℕ) → numberOf (verdict pb) ≡ 0 → Accepted (targetOf (planOf pb)) ≡ verdict pb
+unfolding verdict
+verdict-accepted pb e = by (decoded pb) refl e
+  where
+    by : (d : Decoded) → decoded pb ≡ d → numberOf (judged d) ≡ 0 → Accepted (targetOf (planOf pb)) ≡ judged d
+    by (Read p) q z = rw (read-is pb p q .1) (accepted p (sym (number-is p) ∙ z))
+    by (Unread n) q z = absurd (unread-number pb n q z)

@@ -1,5 +1,6 @@
-// The plan that a call is lent: decoded and judged.
+// The bytes of a plan that a call is lent: decoded and judged.
 ghost use mathlib.Core.Path.{_≡_};
+ghost use Rattle.verdict.specs.Verdict.{verdict};
 ghost use Rattle.planned.specs.Planned.{Plans};
 use plan::Decoded;
 use plan::Plan;
@@ -44,4 +45,17 @@ pub fn admit(bytes: &[u8]) -> Planned
             },
         },
     }
+}
+
+// The verdict on the bytes of a record.
+pub fn check(bytes: &[u8]) -> Verdict
+    ensures { λ r. ⌜ r ≡ verdict (now (bytes .entry)) ⌝ }
+{
+    let planned = admit(bytes);
+    let refusal = planned.refusal;
+    if refusal != 0 {
+        return Verdict::Refused(refusal);
+    }
+    let target = planned.target;
+    Verdict::Accepted(target)
 }

@@ -26,7 +26,7 @@ pub fn plan_line(line: &[u8], text: &mut [u8]) -> Outcome
     match hex::decode_field(line, 0, &mut bytes) {
         Field::Malformed => Outcome::Malformed,
         Field::Bytes { count, next } => {
-            let verdict = verdict::check(&bytes[..count]);
+            let verdict = planned::check(&bytes[..count]);
             let answered = text::put_number(number(verdict), text, 0);
             answer::compare(line, next, text, answered)
         }

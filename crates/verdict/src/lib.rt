@@ -4,8 +4,7 @@ mod rules;
 ghost use mathlib.Core.Path.{_≡_};
 ghost use mathlib.Core.Bool.{true};
 ghost use Rattle.plan.specs.Plan.{legal};
-ghost use Rattle.verdict.specs.Verdict.{verdictOf, verdict};
-use plan::Decoded;
+ghost use Rattle.verdict.specs.Verdict.{verdictOf};
 use plan::Plan;
 pub use plan_clocks::Target;
 
@@ -30,20 +29,11 @@ pub fn check_legal(p: Plan) -> Verdict
     requires { ⌜ legal p ≡ true ⌝ }
     ensures { λ r. ⌜ r ≡ verdictOf p ⌝ }
 {
-    let target = plan_clocks::target_of(p);
-    let refusal = rules::refusal(p, target);
+    let sources = plan_clocks::sources_of(p);
+    let target = plan_clocks::target_of(p, sources);
+    let refusal = rules::refusal(p, sources, target);
     if refusal != 0 {
         return Verdict::Refused(refusal);
     }
     Verdict::Accepted(target)
-}
-
-// The verdict on the bytes of a record.
-pub fn check(bytes: &[u8]) -> Verdict
-    ensures { λ r. ⌜ r ≡ verdict (now (bytes .entry)) ⌝ }
-{
-    match plan::decode(bytes) {
-        Decoded::Unread(refusal) => Verdict::Refused(refusal),
-        Decoded::Read(p) => check_legal(p),
-    }
 }

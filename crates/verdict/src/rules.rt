@@ -4,14 +4,15 @@ ghost use mathlib.Core.Bool.{true};
 ghost use lib.ListN.{drop};
 ghost use Rattle.record.specs.Refusals.{firstOf};
 ghost use Rattle.plan.specs.Plan.{legal};
-ghost use Rattle.plan_clocks.specs.Clocks.{targetOf};
+ghost use Rattle.plan_clocks.specs.Clocks.{sourcesOf, targetOf};
 ghost use Rattle.verdict.specs.Verdict.{planTests, planRefusal};
 use plan::Plan;
+use plan_clocks::Sources;
 use plan_clocks::Target;
 
-// The refusal of a plan that gives `target`, 0 for an accepted one.
-pub fn refusal(p: Plan, target: Target) -> u8
-    requires { ⌜ (legal p ≡ true) × (target ≡ targetOf p) ⌝ }
+// The refusal of a plan that has these sources and gives `target`, 0 for an accepted one.
+pub fn refusal(p: Plan, sources: Sources, target: Target) -> u8
+    requires { ⌜ (legal p ≡ true) × ((sources ≡ sourcesOf p) × (target ≡ targetOf p)) ⌝ }
     ensures { λ r. ⌜ r ≡ planRefusal p ⌝ }
 {
     if plan_sources::core_on_absent_dll1(p) {
@@ -29,22 +30,24 @@ pub fn refusal(p: Plan, target: Target) -> u8
     if plan_sources::usb_on_absent_dll2(p) {
         return 8;
     }
-    frequency_refusal(p, target)
+    frequency_refusal(p, sources, target)
 }
 
 // Tests 9 to 14.
-fn frequency_refusal(p: Plan, target: Target) -> u8
-    requires { ⌜ (legal p ≡ true) × (target ≡ targetOf p) ⌝ }
+fn frequency_refusal(p: Plan, sources: Sources, target: Target) -> u8
+    requires { ⌜ (legal p ≡ true) × ((sources ≡ sourcesOf p) × (target ≡ targetOf p)) ⌝ }
     ensures { λ r. ⌜ r ≡ firstOf (drop 6 (planTests p)) ⌝ }
 {
+    let core = sources.core;
+    let usb = sources.usb;
     let hclk = target.hclk;
     let pclk1 = target.pclk1;
     let pclk2 = target.pclk2;
     let dll2 = p.dll2;
-    if plan_limits::usb_not_60(p.usb, plan_clocks::usb_source(p)) {
+    if plan_limits::usb_not_60(p.usb, usb) {
         return 9;
     }
-    if plan_limits::dll1_core_too_slow(p.sys, plan_clocks::sysclk(p)) {
+    if plan_limits::dll1_core_too_slow(p.sys, core) {
         return 10;
     }
     if plan_limits::hclk_too_fast(hclk) {

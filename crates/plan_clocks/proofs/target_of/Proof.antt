@@ -1,12 +1,12 @@
 -- `plan_clocks::target_of` meets its contract: each field is what its function ensures. Assumes nothing.
 use Rattle.time.proofs.Equal.{hertz-is}
-use Rattle.plan_clocks.specs.Clocks.{targetOf, pclk1Hz, pclk2Hz}
+use Rattle.plan_clocks.specs.Clocks.{sourcesOf, targetOf, hclkHz, pclk1Hz, pclk2Hz, usbDivider}
 use borrow.Author.Needs.{needs}
 use Rattle.plan_clocks.proofs.target_of.Statement.{statement}
 use Rattle.plan_clocks.proofs.target_of.Tie as tie
 
-hclk-requires : tie.Need-hclk-requires
-hclk-requires c κs = search needs
+divide-requires : tie.Need-divide-requires
+divide-requires c κs = search needs
 
 prescale-requires : tie.Need-prescale-requires
 prescale-requires c κs = search needs
@@ -18,10 +18,11 @@ usb-divider-requires : tie.Need-usb-divider-requires
 usb-divider-requires c κs = search needs
 
 returns : tie.Need-returns
-unfolding targetOf pclk1Hz pclk2Hz
-returns c = simp (hertz-is (c .before .before .prescale .ensures), hertz-is (c .before .prescale2 .ensures), hertz-is (c .before .before .before .hclk .ensures), c .usb-divider .ensures)
+unfolding sourcesOf targetOf hclkHz pclk1Hz pclk2Hz usbDivider
+returns c =
+    simp (hertz-is (c .before .before .prescale .ensures), hertz-is (c .before .prescale2 .ensures), hertz-is (c .before .before .before .divide .ensures), c .usb-divider .ensures, c .before .before .before .before .before .before .pre)
 
 pub target-of-spec : {M : Type 1} → statement M
 target-of-spec =
     tie.close
-    (tie.spec hclk-requires prescale-requires prescale-requires-2 usb-divider-requires returns)
+    (tie.spec divide-requires prescale-requires prescale-requires-2 usb-divider-requires returns)

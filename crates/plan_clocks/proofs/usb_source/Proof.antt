@@ -1,16 +1,13 @@
 -- `plan_clocks::usb_source` meets its contract: the source picks the case of `usbHz`. Assumes nothing.
-use borrow.Author.Tests.{eq-eqb, ne-eqb, not-true, not-false}
+use borrow.Author.Tests.{eq-eqb, ne-eqb}
 use Rattle.plan_clocks.specs.Clocks.{usbHz}
 use borrow.Author.Needs.{needs}
 use Rattle.plan_clocks.proofs.usb_source.Statement.{statement}
 use Rattle.plan_clocks.proofs.usb_source.Tie as tie
 
-sysclk-requires : tie.Need-sysclk-requires
-sysclk-requires c κs = search needs
-
 returns : tie.Need-returns
 unfolding usbHz
-returns c = simp (ne-eqb _ _ (c .before .if1 .taken), c .sysclk .ensures)
+returns c = simp (ne-eqb _ _ (c .if1 .taken), c .before .pre .1)
 
 dll-freq-requires : tie.Need-dll-freq-requires
 dll-freq-requires c κs = search needs
@@ -20,4 +17,4 @@ unfolding usbHz
 returns-2 c = simp (eq-eqb _ _ (c .before .if1 .left), c .dll-freq .ensures)
 
 pub usb-source-spec : {M : Type 1} → statement M
-usb-source-spec = tie.close (tie.spec sysclk-requires returns dll-freq-requires returns-2)
+usb-source-spec = tie.close (tie.spec returns dll-freq-requires returns-2)
