@@ -9,6 +9,8 @@ CXX = g++
 CFLAGS = -O2
 STRICT = -Wall -Wextra -pedantic -Wconversion -Wsign-conversion -Werror
 RT = rt
+# Cargo takes no part in make's own count of jobs.
+CARGO = MAKEFLAGS= cargo
 WITH_ORACLE = --release --quiet --offline --manifest-path oracle/Cargo.toml
 ORACLE = oracle/target/release/oracle
 SANITIZE = -O1 -g -fsanitize=address,undefined -fno-sanitize-recover=all
@@ -82,7 +84,7 @@ test-c: build/daemon $(PROGRAMS)
 	@CC='$(CC)' CXX='$(CXX)' tests/c/run.sh
 
 test-rust: $(LIBRARY)
-	cargo test -j1 --quiet --offline --manifest-path bindings/rust/Cargo.toml
+	$(CARGO) test -j1 --quiet --offline --manifest-path bindings/rust/Cargo.toml
 
 build/fuzz: $(FUZZ) tests/fuzz/fuzz.h include/rikkovan.h $(LIBRARY)
 	@mkdir -p build
@@ -103,10 +105,10 @@ test-programs: $(PROGRAMS)
 	@tests/moments/run.sh
 
 test-oracle:
-	cargo test $(WITH_ORACLE) --lib
+	$(CARGO) test $(WITH_ORACLE) --lib
 
 oracle: $(LIBRARY)
-	cargo build $(WITH_ORACLE)
+	$(CARGO) build $(WITH_ORACLE)
 
 compare: oracle
 	$(ORACLE) compare $(RANDOM_GROUPS)
