@@ -5,6 +5,7 @@ use entry_words::columns;
 use entry_words::columns::Line;
 use entry_words::words;
 use head::Head;
+use libc::STDOUT_FILENO;
 use moment::frequency;
 use time::Hertz;
 use time::Reading;
@@ -29,17 +30,10 @@ const LPSYS_SUPPLY: usize = 106;
 const LOAD: usize = 114;
 
 pub fn heading() {
-    let mut line = columns::blank();
-    columns::put(b"entry", &mut line, WORDS);
-    columns::put(b"        HCLK", &mut line, HCLK);
-    columns::put(b"  rail limit", &mut line, RAIL);
-    columns::put(b"supply", &mut line, SUPPLY);
-    columns::put(b"flash 1", &mut line, FLASH1);
-    columns::put(b"flash 2", &mut line, FLASH2);
-    columns::put(b"  LPSYS HCLK", &mut line, LPSYS_HCLK);
-    columns::put(b"supply", &mut line, LPSYS_SUPPLY);
-    let end = columns::put(b"load", &mut line, LOAD);
-    columns::write(line, end);
+    io::write_all(
+        STDOUT_FILENO,
+        b"    entry                                 HCLK   rail limit  supply  flash 1     flash 2      LPSYS HCLK  supply  load\n",
+    );
 }
 
 fn put_hertz(f: Hertz, line: &mut Line, at: usize) {
