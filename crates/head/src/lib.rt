@@ -60,7 +60,7 @@ fn refusal(buffer: &[u8]) -> u8
     if !register::codes::within(buffer) {
         return 3;
     }
-    if !task_bytes::fit(buffer) {
+    if !task_tests::fit(buffer) {
         return 3;
     }
     0

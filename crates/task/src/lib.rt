@@ -2,7 +2,7 @@
 ghost use mathlib.Core.Path.{_≡_};
 ghost use Prim.Native.Nat.{_≤_};
 ghost use lib.ListN.{take, drop};
-ghost use Rattle.task.specs.Task.{taskOk, allOk, hasId, distinct};
+ghost use Rattle.task.specs.Task.{taskOk, hasId};
 
 pub struct Task {
     pub id: u8,
@@ -26,22 +26,6 @@ pub fn ok(task: Task) -> bool
     task.period <= 10000000
 }
 
-// Whether each of the first `count` tasks is such a task.
-pub fn all_ok(tasks: [Task; 16], count: u8) -> bool
-    requires { ⌜ count ≤ 16 ⌝ }
-    ensures { λ r. ⌜ r ≡ allOk (take count tasks) ⌝ }
-{
-    let end = count as usize;
-    let mut i = 0;
-    while i < end {
-        if !ok(tasks[i]) {
-            return false;
-        }
-        i += 1;
-    }
-    true
-}
-
 // Whether one of the tasks from `from` on, up to `count`, has the id.
 pub fn has_id(tasks: [Task; 16], from: usize, count: u8, id: u8) -> bool
     requires { ⌜ (from ≤ count) × (count ≤ 16) ⌝ }
@@ -57,21 +41,4 @@ pub fn has_id(tasks: [Task; 16], from: usize, count: u8, id: u8) -> bool
         i += 1;
     }
     false
-}
-
-// Whether no two of the first `count` tasks have the same id.
-pub fn distinct(tasks: [Task; 16], count: u8) -> bool
-    requires { ⌜ count ≤ 16 ⌝ }
-    ensures { λ r. ⌜ r ≡ distinct (take count tasks) ⌝ }
-{
-    let end = count as usize;
-    let mut i = 0;
-    while i < end {
-        let task = tasks[i];
-        if has_id(tasks, i + 1, count, task.id) {
-            return false;
-        }
-        i += 1;
-    }
-    true
 }

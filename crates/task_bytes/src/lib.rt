@@ -4,10 +4,10 @@ ghost use Prim.Native.Nat.{_+_, _*_, _≤_};
 ghost use lib.ListN.{length, take, drop};
 ghost use Rattle.register.specs.Registers.{bufferBytes};
 ghost use Rattle.record.specs.Items.{items, joined, laid};
-ghost use Rattle.task_bytes.specs.Tasks.{taskIn, taskBytes, firstTask, countIn, placed, placesIn, tasksFit};
+ghost use Rattle.task_bytes.specs.Tasks.{taskIn, taskBytes, firstTask, countIn, placed, placesIn};
 use task::Task;
 
-const FIRST_TASK: usize = 111;
+pub const FIRST_TASK: usize = 111;
 
 // The task at a place of a record.
 pub fn task_at(buffer: &[u8], at: usize) -> Task
@@ -34,7 +34,7 @@ pub fn task_at(buffer: &[u8], at: usize) -> Task
 }
 
 // Sixteen places, the first `count` with the tasks from a place of the bytes on, the others empty.
-pub fn tasks_at(bytes: &[u8], at: usize, count: usize) -> [Task; 16]
+fn tasks_at(bytes: &[u8], at: usize, count: usize) -> [Task; 16]
     requires { ⌜ (at + 9 * count ≤ length (now bytes)) × (count ≤ 16) ⌝ }
     ensures { λ r. ⌜ r ≡ placed (items taskIn 9 count (drop at (now (bytes .entry)))) count ⌝ }
 {
@@ -58,19 +58,6 @@ pub fn read(buffer: &[u8]) -> [Task; 16]
     ensures { λ r. ⌜ r ≡ placesIn (now (buffer .entry)) ⌝ }
 {
     tasks_at(buffer, FIRST_TASK, buffer[110] as usize)
-}
-
-// Whether a record's tasks are such that neither 16 nor 40 would refuse one.
-pub fn fit(buffer: &[u8]) -> bool
-    requires { ⌜ (length (now buffer) ≡ bufferBytes) × (countIn (now buffer) ≤ 16) ⌝ }
-    ensures { λ r. ⌜ r ≡ tasksFit (now (buffer .entry)) ⌝ }
-{
-    let count = buffer[110];
-    let tasks = read(buffer);
-    if !task::all_ok(tasks, count) {
-        return false;
-    }
-    task::distinct(tasks, count)
 }
 
 fn put_task(buffer: &mut [u8], at: usize, task: Task)
