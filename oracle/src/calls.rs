@@ -83,6 +83,16 @@ const WITH_PLAN: Call = Call {
     ..WITH_ANSWERS
 };
 
+/// The plan check alone.
+pub fn of_plans() -> &'static [Call] {
+    &CALLS[..1]
+}
+
+/// The two readings of a head.
+pub fn of_heads() -> &'static [Call] {
+    &CALLS[1..3]
+}
+
 /// The ten calls of LPSYS.
 pub fn lpsys() -> &'static [Call] {
     &CALLS[3..13]

@@ -57,12 +57,10 @@ compare  every call of librikkovan.a against the original code, or against
          --seconds N: each random group goes on for N seconds at least. --seed: what
          the random groups are drawn from. --only PART: plan, heads, lpsys, config,
          tasks or change; may be given several times. --table: only the tables.
-query    one query by both sides. LINE is one that compare printed, or a line of
-         lpsys.txt, config.txt, tasks.txt or change.txt; or plan, clocks or lpsys
-         and the bytes.
-record   writes DIR/plans.txt, DIR/heads.txt, DIR/lpsys.txt, DIR/config.txt,
-         DIR/tasks.txt and DIR/change.txt: plans, heads and calls in hex and the
-         answers to them.
+query    one query by both sides. LINE is one that compare printed, or a line that
+         record wrote.
+record   writes DIR/NAME.txt for each call: what it is given, in hex, and the answers
+         to it.
 bench    nanoseconds per call of librikkovan.a, beside the original and the models.";
 
 fn main() -> ExitCode {

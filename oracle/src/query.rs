@@ -162,32 +162,69 @@ pub fn call(id: Id) -> &'static Call {
     call.expect("a call of the table")
 }
 
-/// Name, arguments, plan, former clocks, bytes and answers, each where the call has
-/// it: the front of a line in the records. A journal that has not its usual length
-/// stands before them.
+/// The front of a line in the records. Of a reading name and bytes; of a call on a head
+/// name, argument, buffer, answers and clocks before it, with `-` for what it is not lent.
+/// A journal that has not its usual length stands before them.
 impl Display for Query<'_> {
     fn fmt(&self, f: &mut Formatter) -> fmt::Result {
         let call = self.call;
         if call.is_lent_journal && self.journal != JOURNAL {
             write!(f, "journal={} ", self.journal)?;
         }
-        write!(f, "{}", call.name)?;
-        for argument in &self.arguments[..call.arguments.len()] {
-            write!(f, " {argument}")?;
+        if call.is_reading() {
+            let bytes = if call.is_lent_plan {
+                self.plan
+            } else {
+                self.bytes
+            };
+            return write!(f, "{} {}", call.name, hex::bytes(bytes));
         }
-        if call.is_lent_plan {
-            write!(f, " {}", hex::bytes(self.plan))?;
+        let argument = hex::bytes(&self.argument());
+        write!(f, "{} {argument} {}", call.name, hex::bytes(self.bytes))?;
+        let answers = lent(call.is_lent_answers, self.answers);
+        let clocks = lent(call.is_lent_clocks(), &self.clocks);
+        write!(f, " {} {}", hex::words(answers, 4), hex::words(clocks, 8))
+    }
+}
+
+/// What is lent, or nothing.
+fn lent<T>(is_lent: bool, what: &[T]) -> &[T] {
+    if is_lent { what } else { &[] }
+}
+
+impl Call {
+    /// Whether it reads bytes and leaves them; the others are on a head.
+    pub fn is_reading(&self) -> bool {
+        use Id::{LoadCheck, PlanCheck, ReadClocks, ReadLpsys};
+        matches!(self.id, PlanCheck | ReadClocks | ReadLpsys | LoadCheck)
+    }
+
+    /// Whether a line has the 15 clocks before and after it.
+    fn is_lent_clocks(&self) -> bool {
+        matches!(self.clocks, Clocks::Written | Clocks::Former)
+    }
+}
+
+impl Query<'_> {
+    /// A plan's bytes, or the arguments, each in as many bytes as its type has, high
+    /// byte first.
+    fn argument(&self) -> Vec<u8> {
+        if self.call.is_lent_plan {
+            return self.plan.to_vec();
         }
-        if call.clocks == Clocks::Former {
-            write!(f, " {}", hex::words(&self.clocks, 8))?;
-        }
-        if call.is_lent_bytes {
-            write!(f, " {}", hex::bytes(self.bytes))?;
-        }
-        if call.is_lent_answers {
-            write!(f, " {}", hex::words(self.answers, 4))?;
-        }
-        Ok(())
+        let arguments = self.arguments.iter().zip(self.call.arguments);
+        let bytes = arguments.flat_map(|(value, argument)| {
+            let bytes = value.to_be_bytes();
+            bytes[bytes.len() - argument.bytes()..].to_vec()
+        });
+        bytes.collect()
+    }
+}
+
+impl Argument {
+    /// How many bytes its type has.
+    fn bytes(&self) -> usize {
+        if self.largest > 255 { 4 } else { 1 }
     }
 }
 
@@ -231,23 +268,45 @@ impl Owned {
         let mut word = |what: &str| words.next().ok_or_else(|| format!("{name} takes {what}"));
         let mut query = Query::on(call, &[]).to_owned();
         query.journal = journal;
-        for argument in &mut query.arguments[..call.arguments.len()] {
-            *argument = word("a number")?.parse().map_err(|_| "no number")?;
+        if call.is_reading() {
+            let bytes = hex::read(word("bytes")?, 2).ok_or("bytes that are no hex")?;
+            *(if call.is_lent_plan {
+                &mut query.plan
+            } else {
+                &mut query.bytes
+            }) = bytes;
+            return Ok(query);
         }
-        if call.is_lent_plan {
-            query.plan = hex::read(word("a plan")?, 2).ok_or("a plan that is no hex")?;
-        }
-        if call.clocks == Clocks::Former {
-            let clocks = hex::read::<u32>(word("clocks")?, 8).ok_or("clocks that are no hex")?;
+        let argument = hex::read(word("an argument")?, 2).ok_or("an argument that is no hex")?;
+        query.take_argument(argument)?;
+        query.bytes = hex::read(word("a head's bytes")?, 2).ok_or("bytes that are no hex")?;
+        query.answers = hex::read(word("answers")?, 4).ok_or("answers that are no hex")?;
+        let clocks = hex::read::<u32>(word("clocks")?, 8).ok_or("clocks that are no hex")?;
+        if call.is_lent_clocks() {
             query.clocks = clocks.try_into().map_err(|_| "clocks are 15 words")?;
         }
-        if call.is_lent_bytes {
-            query.bytes = hex::read(word("bytes")?, 2).ok_or("bytes that are no hex")?;
-        }
-        if call.is_lent_answers {
-            query.answers = hex::read(word("answers")?, 4).ok_or("answers that are no hex")?;
-        }
         Ok(query)
+    }
+
+    /// Takes a plan, or numbers that have just the bytes of the call's arguments.
+    fn take_argument(&mut self, bytes: Vec<u8>) -> Result<(), String> {
+        if self.call.is_lent_plan {
+            self.plan = bytes;
+            return Ok(());
+        }
+        let mut rest = &bytes[..];
+        for (value, argument) in self.arguments.iter_mut().zip(self.call.arguments) {
+            let number = rest.split_at_checked(argument.bytes());
+            let (number, after) = number.ok_or("an argument that is too short")?;
+            *value = number
+                .iter()
+                .fold(0, |value, &byte| value << 8 | u32::from(byte));
+            rest = after;
+        }
+        match rest {
+            [] => Ok(()),
+            _ => Err("an argument that is too long".to_string()),
+        }
     }
 }
 

@@ -52,16 +52,4 @@ impl Read {
             lent,
         }
     }
-
-    /// 0, or the refusal number of the first call.
-    pub fn answer(&self) -> u64 {
-        self.words[0] & !REFUSED
-    }
-
-    /// The 15 frequencies and the six of LPSYS.
-    pub fn frequencies(&self) -> impl Iterator<Item = u32> {
-        let lent = self.lent;
-        let places = (CLOCKS..CLOCKS + 15).chain(LPSYS..LPSYS + 6);
-        places.map(move |index| lent[index])
-    }
 }

@@ -20,7 +20,7 @@ use std::path::Path;
 const MOST_ANSWERS: usize = 60;
 
 pub fn write(directory: &Path) -> io::Result<()> {
-    write_calls(directory, "change.txt", guarded(), |list| {
+    write_calls(directory, guarded(), 1, |list| {
         modes(list);
         unfit(list);
         every_rails(list);

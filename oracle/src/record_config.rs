@@ -16,7 +16,7 @@ use sifli::call::Frequencies;
 use sifli::calls::config;
 use sifli::head::{BUFFER, at};
 use sifli::plan::{DEFAULT, at as field};
-use sifli::query::{Clocks, Query};
+use sifli::query::{Clocks, FORMER, Query};
 use sifli::random::Random;
 use std::io;
 use std::path::Path;
@@ -25,7 +25,7 @@ use std::path::Path;
 const MOST_ANSWERS: usize = 60;
 
 pub fn write(directory: &Path) -> io::Result<()> {
-    write_calls(directory, "config.txt", config(), |list| {
+    write_calls(directory, config(), 1, |list| {
         clocks_and_plans(list);
         supply_modes(list);
         measurements(list);
@@ -43,6 +43,11 @@ fn add_former(
     clocks: Frequencies,
     answers: &[u16],
 ) {
+    // Those of `init` are only written.
+    let clocks = match list.call.clocks {
+        Clocks::Former => clocks,
+        _ => FORMER,
+    };
     list.add(&Query {
         plan,
         clocks,

@@ -6,57 +6,42 @@ use crate::heads::{
     put_flags, put_length, put_period, put_register, task, with, with_tasks,
 };
 use crate::plans::STAGES;
-use crate::read::Read;
-use crate::record::List;
+use crate::record::{CallLines, FEWEST, write_calls};
+use sifli::calls::of_heads;
 use sifli::head::{BUFFER, Head, LARGEST, LONGEST_PERIOD, MOST_TASKS, TASK, at};
 use sifli::random::Random;
+use std::io;
+use std::path::Path;
 
 /// Random buffers of each of the three sorts.
 const RANDOM: usize = 20;
 
-pub fn list() -> List {
-    let mut list = List::new(answer);
-    simple(&mut list);
-    core_clocks(&mut list);
-    usb(&mut list);
-    selects(&mut list);
-    lpsys(&mut list);
-    lengths(&mut list);
-    counts(&mut list);
-    codes(&mut list);
-    tasks(&mut list);
-    orders(&mut list);
-    random(&mut list);
-    list
+pub fn write(directory: &Path) -> io::Result<()> {
+    write_calls(directory, of_heads(), FEWEST, |list| {
+        simple(list);
+        core_clocks(list);
+        usb(list);
+        selects(list);
+        lpsys(list);
+        lengths(list);
+        counts(list);
+        codes(list);
+        tasks(list);
+        orders(list);
+        random(list);
+    })
 }
 
-/// The refusal number; or 0 and all frequencies.
-///
-/// # Panics
-///
-/// Panics where the original code does, which it does on no head.
-fn answer(slice: &[u8]) -> (u64, String) {
-    let read = Read::original(slice).unwrap_or_else(|text| panic!("the original code: {text}"));
-    let answer = read.answer();
-    let mut text = answer.to_string();
-    if answer == 0 {
-        for frequency in read.frequencies() {
-            text.push_str(&format!(" {frequency}"));
-        }
-    }
-    (answer, text)
-}
-
-fn add_with(list: &mut List, buffer: Buffer, changes: &[(usize, u8)]) {
-    list.add(&with(buffer, changes));
+fn add_with(list: &mut CallLines, buffer: Buffer, changes: &[(usize, u8)]) {
+    list.read(&with(buffer, changes));
 }
 
 /// All zero, plain and busy heads, every byte at its largest, each count of
 /// tasks.
-fn simple(list: &mut List) {
+fn simple(list: &mut CallLines) {
     for head in [Head::default(), plain(), busy()] {
-        list.add(&buffer(&head, 0));
-        list.add(&buffer(&head, 0xEE));
+        list.read(&buffer(&head, 0));
+        list.read(&buffer(&head, 0xEE));
     }
     let mut largest = buffer(&with_tasks(plain(), MOST_TASKS), 0);
     for (number, bytes) in (1..).zip(LARGEST) {
@@ -65,24 +50,24 @@ fn simple(list: &mut List) {
     add_with(list, largest, &[(at::BOOT_MODE, 255)]);
     add_with(list, largest, &[(at::WAKE_COUNT, 255), (at::c(1), 2)]);
     for count in 0..=MOST_TASKS {
-        list.add(&buffer(&with_tasks(busy(), count), 0));
+        list.read(&buffer(&with_tasks(busy(), count), 0));
     }
 }
 
 /// Each core select with each set of ready flags, each DLL1, each divider.
-fn core_clocks(list: &mut List) {
+fn core_clocks(list: &mut CallLines) {
     for select in 0..4 {
         for flags in 0..8 {
             let mut buffer = with(buffer(&plain(), 0), &[(at::c(1), select)]);
             put_flags(&mut buffer, flags);
-            list.add(&buffer);
+            list.read(&buffer);
         }
     }
     for (dll1, hdiv) in dlls(&STAGES).into_iter().zip(DIVIDERS.iter().cycle()) {
         if dll1[0] == 1 || dll1[2] % 5 == 0 {
             let mut buffer = with(buffer(&plain(), 0), &[(at::c(1), 3), (at::a(2), *hdiv)]);
             put_register(&mut buffer, 3, dll1);
-            list.add(&buffer);
+            list.read(&buffer);
         }
     }
     for hdiv in DIVIDERS {
@@ -96,7 +81,7 @@ fn core_clocks(list: &mut List) {
 }
 
 /// Each USB source and divider; DLL2 on and off, with the core on DBL96.
-fn usb(list: &mut List) {
+fn usb(list: &mut CallLines) {
     for divider in 0..8 {
         for source in 0..2 {
             let changes = [(at::c(7), source), (at::c(8), divider)];
@@ -108,14 +93,14 @@ fn usb(list: &mut List) {
             let changes = [(at::c(7), 1), (at::c(8), divider), (at::c(1), 2)];
             let mut buffer = with(buffer(&busy(), 0), &changes);
             put_register(&mut buffer, 4, dll2);
-            list.add(&buffer);
+            list.read(&buffer);
         }
     }
 }
 
 /// Both flash selects on DLLs that are on and off; peripheral and low-power
 /// select.
-fn selects(list: &mut List) {
+fn selects(list: &mut CallLines) {
     for setting in 0..16 {
         for dlls_on in [3, setting % 3] {
             let changes = [
@@ -132,13 +117,13 @@ fn selects(list: &mut List) {
 }
 
 /// LPSYS selects with each set of ready flags; dividers.
-fn lpsys(list: &mut List) {
+fn lpsys(list: &mut CallLines) {
     for selects in 0..4 {
         for flags in 0..8 {
             let sources = [(at::c(25), selects % 2), (at::c(27), selects / 2)];
             let mut buffer = with(buffer(&busy(), 0), &sources);
             put_flags(&mut buffer, flags);
-            list.add(&buffer);
+            list.read(&buffer);
         }
     }
     for (index, hdiv1) in (0..).zip(DIVIDERS) {
@@ -150,22 +135,22 @@ fn lpsys(list: &mut List) {
 }
 
 /// Buffers of other lengths.
-fn lengths(list: &mut List) {
+fn lengths(list: &mut CallLines) {
     for length in [
         0, 1, 2, 3, 20, 109, 110, 111, 112, 120, 254, 256, 257, LONGEST,
     ] {
         for head in [plain(), with_tasks(busy(), MOST_TASKS)] {
             let mut bytes = buffer(&head, 0).to_vec();
             bytes.resize(length, 0);
-            list.add(&bytes);
+            list.read(&bytes);
         }
     }
-    list.add(&[0; BUFFER]);
-    list.add(&[255; BUFFER]);
+    list.read(&[0; BUFFER]);
+    list.read(&[255; BUFFER]);
 }
 
 /// Length fields, counts and versions.
-fn counts(list: &mut List) {
+fn counts(list: &mut CallLines) {
     let good = buffer(&with_tasks(plain(), MOST_TASKS), 0);
     for count in [0, 1, 15, 16, 17, 27, 28, 128, 255] {
         let fitting = (109 + TASK * count) as u16;
@@ -178,7 +163,7 @@ fn counts(list: &mut List) {
         ] {
             let mut buffer = with(good, &[(at::COUNT, count as u8)]);
             put_length(&mut buffer, length);
-            list.add(&buffer);
+            list.read(&buffer);
         }
     }
     for (version, count) in [0, 2, 3, 128, 129, 255]
@@ -193,7 +178,7 @@ fn counts(list: &mut List) {
 }
 
 /// Every byte of a register one above its largest value, and flags.
-fn codes(list: &mut List) {
+fn codes(list: &mut CallLines) {
     let good = buffer(&with_tasks(busy(), 1), 0);
     for (number, largest) in (1..).zip(LARGEST) {
         for (index, most) in (at::a(number)..).zip(largest) {
@@ -210,7 +195,7 @@ fn codes(list: &mut List) {
 }
 
 /// Tasks at the first, a middle and the last place, and past it.
-fn tasks(list: &mut List) {
+fn tasks(list: &mut CallLines) {
     let good = buffer(&with_tasks(busy(), 7), 0);
     for index in [0, 3, 6, 7] {
         add_with(list, good, &[(task(index), 0)]);
@@ -218,12 +203,12 @@ fn tasks(list: &mut List) {
         for cycles in [0, 1, 256, u32::MAX] {
             let mut buffer = good;
             put_cycles(&mut buffer, index, cycles);
-            list.add(&buffer);
+            list.read(&buffer);
         }
         for period in [0, 1, LONGEST_PERIOD, LONGEST_PERIOD + 1, u32::MAX] {
             let mut buffer = good;
             put_period(&mut buffer, index, period);
-            list.add(&buffer);
+            list.read(&buffer);
         }
     }
     for (first, second) in [(0, 1), (0, 6), (2, 4), (5, 6), (6, 7)] {
@@ -236,7 +221,7 @@ fn tasks(list: &mut List) {
 }
 
 /// 1 comes before 2, 2 before 3.
-fn orders(list: &mut List) {
+fn orders(list: &mut CallLines) {
     let good = buffer(&with_tasks(plain(), 2), 0);
     let length = (1, 1);
     let version = (at::VERSION, 0);
@@ -248,11 +233,11 @@ fn orders(list: &mut List) {
     add_with(list, good, &[length, version]);
 }
 
-fn random(list: &mut List) {
+fn random(list: &mut CallLines) {
     let mut random = Random::new(0xA116);
     for _ in 0..RANDOM {
-        list.add(&likely(&mut random));
-        list.add(&damaged(&mut random));
-        list.add(&garbage(&mut random));
+        list.read(&likely(&mut random));
+        list.read(&damaged(&mut random));
+        list.read(&garbage(&mut random));
     }
 }

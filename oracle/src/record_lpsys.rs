@@ -18,7 +18,7 @@ use std::path::Path;
 const MOST_ANSWERS: usize = 100;
 
 pub fn write(directory: &Path) -> io::Result<()> {
-    write_calls(directory, "lpsys.txt", lpsys(), |list| {
+    write_calls(directory, lpsys(), 1, |list| {
         if list.call.refusals.contains(&15) {
             requests(list);
         }

@@ -20,12 +20,10 @@ const RANDOM: usize = 28;
 const NEW: u8 = 200;
 
 pub fn write(directory: &Path) -> io::Result<()> {
-    write_calls(directory, "tasks.txt", of_tasks(), |list| {
-        match list.call.id {
-            Id::LoadCheck => load_checks(list),
-            Id::Book => bookings(list),
-            _ => releases(list),
-        }
+    write_calls(directory, of_tasks(), 1, |list| match list.call.id {
+        Id::LoadCheck => load_checks(list),
+        Id::Book => bookings(list),
+        _ => releases(list),
     })
 }
 

@@ -6,7 +6,7 @@ use native.Mathlib.Omega.{arith}
 use lib.ListN.{length}
 use Rattle.text.specs.Text.{Puts}
 use Rattle.text.proofs.Putting.{puts-then}
-use Rattle.answered.specs.Left.{Matches}
+use Rattle.answered.specs.Answer.{Matches}
 
 pub same-line : {line given left t t' t'' j : List ℕ} {m end entries : ℕ} → Puts given t 0 t' m → Puts left t' m t'' end → Matches line j entries t'' end →
     length t' ≡ length t → length t'' ≡ length t' → line ≡ given ++ left

@@ -7,7 +7,7 @@ use native.Mathlib.Omega.{arith}
 use borrow.Author.Tests.{eqb-true, eqb-false}
 use lib.Dec.{eqb}
 use lib.ListN.{getD}
-use Rattle.answered.specs.Left.{unused}
+use Rattle.answered.specs.Answer.{unused}
 
 pub keep-next : (journal : List ℕ) (from i : ℕ) → ((j : ℕ) → from ≤ j → j < i → getD journal j 0 ≡ unused) → getD journal i 0 ≡ unused →
     (j : ℕ) → from ≤ j → j < i + 1 → getD journal j 0 ≡ unused

@@ -1,6 +1,5 @@
--- What a call on a head is given and left, as text. Assumes nothing.
+-- What a call on a head is given and left, as text: the line that records it. Assumes nothing.
 use Prim.Native.Nat.{ℕ}
-use mathlib.Core.Bool.{Bool, true, false}
 use mathlib.Core.List.{List, [], _∷_, _++_}
 use lib.ListN.{take}
 use Rattle.record.specs.Bytes.{twoBytes}
@@ -25,15 +24,15 @@ bytes s = 32 ∷ hexField 2 s
 abbrev pub words : List ℕ → List ℕ
 words s = 32 ∷ hexField 8 s
 
--- answers, where they are lent
-abbrev pub answersText : Bool → List ℕ → List ℕ
-answersText true a = bytes a
-answersText false a = []
+-- what a call is given: its name, its argument, the buffer, the answers, the clocks before it
+abbrev pub givenText : List ℕ → List ℕ → List ℕ → List ℕ → List ℕ → List ℕ
+givenText name x b a former = name ++ (bytes x ++ (bytes b ++ (bytes a ++ words former)))
 
--- what it leaves: refusal, value, counts of entries and of answers taken, the entries, the buffer
-abbrev pub leftText : Answer → List ℕ → List ℕ → List ℕ
-leftText r b j =
-    number (r .refusal) ++ (number (r .value) ++ (number (r .entries) ++ (number (r .taken) ++ (words (take (r .entries) j) ++ bytes b))))
+-- what it leaves: refusal, value, counts of entries and of answers taken, the entries, the buffer, the clocks
+abbrev pub leftText : Answer → List ℕ → List ℕ → List ℕ → List ℕ
+leftText r b j clocks =
+    number (r .refusal) ++ (number (r .value) ++ (number (r .entries) ++ (number (r .taken) ++ (words (take (r .entries) j) ++ (bytes b ++ words clocks)))))
 
-abbrev pub resultText : Result → List ℕ
-resultText o = leftText (record { refusal = o .refusal; value = o .value; entries = o .entries; taken = o .taken }) (o .buffer) (o .journal)
+abbrev pub resultText : Result → List ℕ → List ℕ
+resultText o clocks =
+    leftText (record { refusal = o .refusal; value = o .value; entries = o .entries; taken = o .taken }) (o .buffer) (o .journal) clocks

@@ -1,45 +1,57 @@
 // A file of records, replayed line by line.
-use crate::records;
+ghost use lib.ListN.{length};
+ghost use Rattle.answered.specs.Answer.{AnswerWithin};
 use answered::Outcome;
 use lines::Line;
 use lines::Reader;
-use replay_report::Kind;
+use replay_calls::Call;
+use replay_readings::Reading;
 use replay_report::Tally;
 use replay_report::report;
+
+// What the lines of a file record.
+pub enum Recorded {
+    Call(Call),
+    Reading(Reading),
+}
 
 // How many of the differing lines are shown.
 const SHOWN: u64 = 10;
 
+// Compares our answer with a line. It goes to the start of `text`.
+fn compare(recorded: Recorded, name: &[u8], line: &[u8], text: &mut [u8]) -> Outcome
+    ensures { λ r. ⌜ AnswerWithin r (length (now (text .entry))) ⌝ }
+{
+    match recorded {
+        Recorded::Call(call) => replay_calls::call_line(call, name, line, text),
+        Recorded::Reading(reading) => replay_readings::reading_line(reading, name, line, text),
+    }
+}
+
 // Replays one line, and shows it where it differs and few did before it.
-fn replay_line(kind: Kind, number: u64, tally: Tally, line: &[u8]) -> Tally {
+fn replay_line(recorded: Recorded, name: &[u8], number: u64, tally: Tally, line: &[u8]) -> Tally {
     // As long as the line buffer, so longer than any recorded answer.
     let mut text = [0u8; 4096];
-    match records::replay(kind, line, &mut text) {
+    match compare(recorded, name, line, &mut text) {
         Outcome::Same => tally.one_replayed(),
         Outcome::Different { from, to } => {
             if tally.different < SHOWN {
-                report::different(kind, number, line, &text[from..to]);
+                report::different(name, number, line, &text[from..to]);
             }
             tally.one_replayed().one_different()
         }
         Outcome::Overwritten => {
             if tally.different < SHOWN {
-                report::overwritten(kind, number, line);
+                report::overwritten(name, number, line);
             }
             tally.one_replayed().one_different()
-        }
-        Outcome::Malformed => {
-            if tally.different < SHOWN {
-                report::malformed(kind, number, line);
-            }
-            tally.one_different()
         }
     }
 }
 
 // Replays every line of a file that is open for reading. A proved loop has to end, and nothing says
 // that a file does: the loop counts its turns, up to a number that no run reaches.
-fn replay_lines(kind: Kind, fd: i32) -> Tally {
+fn replay_lines(recorded: Recorded, name: &[u8], fd: i32) -> Tally {
     let mut block = [0u8; 65536];
     let mut line = [0u8; 4096];
     let mut reader = Reader::new(fd);
@@ -52,11 +64,11 @@ fn replay_lines(kind: Kind, fd: i32) -> Tally {
                 return tally;
             }
             Line::Broken(fault) => {
-                report::broken(kind, number, fault);
+                report::broken(name, number, fault);
                 return tally.one_different();
             }
             Line::Whole(length, after) => {
-                tally = replay_line(kind, number, tally, &line[..length]);
+                tally = replay_line(recorded, name, number, tally, &line[..length]);
                 reader = after;
             }
         }
@@ -64,15 +76,15 @@ fn replay_lines(kind: Kind, fd: i32) -> Tally {
     tally
 }
 
-// Replays the file at a path, and says what it found.
-pub fn replay(kind: Kind, path: &[u8]) {
+// Replays the file of a name, and says what it found.
+pub fn replay(recorded: Recorded, name: &[u8], path: &[u8]) {
     let fd = os::open_read(path);
     if fd < 0 {
-        report::unopened(kind, path);
-        report::sums(kind, Tally::new().one_different());
+        report::unopened(name, path);
+        report::sums(name, Tally::new().one_different());
         return;
     }
-    let tally = replay_lines(kind, fd);
+    let tally = replay_lines(recorded, name, fd);
     libc::close(fd);
-    report::sums(kind, tally);
+    report::sums(name, tally);
 }

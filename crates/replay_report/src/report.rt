@@ -1,5 +1,4 @@
 // What the program says of a file of records, on standard output.
-use crate::kind::Kind;
 use crate::tally::Tally;
 use libc::STDOUT_FILENO;
 use lines::Fault;
@@ -8,37 +7,37 @@ fn say(text: &[u8]) {
     io::write_all(STDOUT_FILENO, text);
 }
 
-fn at_line(kind: Kind, number: u64) {
-    kind.say();
+// The start of each line that the program writes of a file.
+fn start(name: &[u8]) {
+    say(name);
+    say(b": ");
+}
+
+fn at_line(name: &[u8], number: u64) {
+    start(name);
     say(b"line ");
     io::print_decimal(STDOUT_FILENO, number);
     say(b": ");
 }
 
 // A line, and our answer, which is not the recorded one.
-pub fn different(kind: Kind, number: u64, line: &[u8], answer: &[u8]) {
-    at_line(kind, number);
+pub fn different(name: &[u8], number: u64, line: &[u8], answer: &[u8]) {
+    at_line(name, number);
     say(line);
     say(b", answered ");
     say(answer);
     say(b"\n");
 }
 
-pub fn overwritten(kind: Kind, number: u64, line: &[u8]) {
-    at_line(kind, number);
+pub fn overwritten(name: &[u8], number: u64, line: &[u8]) {
+    at_line(name, number);
     say(line);
     say(b", words past the entries changed\n");
 }
 
-pub fn malformed(kind: Kind, number: u64, line: &[u8]) {
-    at_line(kind, number);
-    say(line);
-    say(b", not fields and an answer\n");
-}
-
 // A line from which on the file is not read.
-pub fn broken(kind: Kind, number: u64, fault: Fault) {
-    at_line(kind, number);
+pub fn broken(name: &[u8], number: u64, fault: Fault) {
+    at_line(name, number);
     match fault {
         Fault::Long => say(b"too long, so the file is read no further\n"),
         Fault::Cut => say(b"no line feed at its end\n"),
@@ -46,15 +45,15 @@ pub fn broken(kind: Kind, number: u64, fault: Fault) {
     }
 }
 
-pub fn unopened(kind: Kind, path: &[u8]) {
-    kind.say();
+pub fn unopened(name: &[u8], path: &[u8]) {
+    start(name);
     say(b"cannot open ");
     say(path);
     say(b"\n");
 }
 
-pub fn sums(kind: Kind, tally: Tally) {
-    kind.say();
+pub fn sums(name: &[u8], tally: Tally) {
+    start(name);
     io::print_decimal(STDOUT_FILENO, tally.replayed);
     say(b" replayed, ");
     io::print_decimal(STDOUT_FILENO, tally.different);

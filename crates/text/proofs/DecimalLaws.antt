@@ -1,18 +1,12 @@
--- Numbers in decimal: the fewest digits, and one number after the other. Assumes nothing.
+-- Numbers in decimal: the fewest digits. Assumes nothing.
 use Prim.Native.Nat.{ℕ, zero, suc, _+_, _-_, _/_, _%_, _^_, _<_, _≤_}
 use mathlib.Core.Path.{_≡_, refl, sym}
-use mathlib.Core.List.{List, [], _∷_, _++_, append-assoc, append-nil}
 use native.Mathlib.Omega.{arith}
-use native.Mathlib.Numerals.{add-one}
 use borrow.Author.Tests.{lt-ltb, le-ltb, leb-true, leb-false}
 use mathlib.Core.Bool.{Bool, true, false}
 use lib.Dec.{leb}
-use lib.ListN.{length, take, getD}
-use lib.Seq.{take-all}
 use Rattle.io.specs.Digits.{digits, Fewest}
-use Rattle.text.specs.Decimal.{digitsOf, decimalOf, numbersOf}
-use Rattle.text.specs.Text.{Puts}
-use Rattle.text.proofs.Putting.{puts-then}
+use Rattle.text.specs.Decimal.{digitsOf, decimalOf}
 
 power-positive : (k : ℕ) → 1 ≤ 10 ^ k
 power-positive zero = omega arith
@@ -56,20 +50,3 @@ decimal-is n zero h f = absurd (omega (arith, f .0))
 decimal-is n (suc k) h f =
     let less : suc k - 1 ≡ k = omega arith in
     sym (digits-of 19 k n (few n (suc k) h f) (f .1) (λ p. rw less at (f .2 (omega arith))))
-
-numbers-suc : (ns : List ℕ) (i : ℕ) → i < length ns → numbersOf (take (suc i) ns) ≡ numbersOf (take i ns) ++ (32 ∷ decimalOf (getD ns i 0))
-unfolding numbersOf
-numbers-suc [] i h = absurd (omega arith)
-numbers-suc (n ∷ ns) zero h = rw append-nil
-numbers-suc (n ∷ ns) (suc i) h = rw (append-assoc, numbers-suc ns i (omega arith))
-
-pub numbers-next : (ns : List ℕ) (i : ℕ) → i < length ns → numbersOf (take (i + 1) ns) ≡ numbersOf (take i ns) ++ (32 ∷ decimalOf (getD ns i 0))
-numbers-next ns i h = rw (add-one i) (numbers-suc ns i h)
-
--- one number more, and all of them
-pub puts-decimal : (ns : List ℕ) (i : ℕ) {t t' t'' : List ℕ} {at m end : ℕ} → Puts (numbersOf (take i ns)) t at t' m →
-    Puts (32 ∷ decimalOf (getD ns i 0)) t' m t'' end → i < length ns → length t' ≡ length t → Puts (numbersOf (take (i + 1) ns)) t at t'' end
-puts-decimal ns i p q h e = rw (numbers-next ns i h) (puts-then p q e)
-
-pub puts-all : (ns : List ℕ) (i : ℕ) {t t' : List ℕ} {at end : ℕ} → Puts (numbersOf (take i ns)) t at t' end → length ns ≤ i → Puts (numbersOf ns) t at t' end
-puts-all ns i p l = rw (take-all i ns l) at p

@@ -13,8 +13,3 @@ digitsOf (suc most) n = cond (ltb n 10) (glyph n ∷ []) (digitsOf most (n / 10)
 -- a number of 64 bits in decimal, which takes 20 digits at most
 abbrev pub decimalOf : ℕ → List ℕ
 decimalOf n = digitsOf 20 n
-
--- each number after a blank
-unfoldable pub numbersOf : List ℕ → List ℕ
-numbersOf [] = []
-numbersOf (n ∷ ns) = 32 ∷ decimalOf n ++ numbersOf ns

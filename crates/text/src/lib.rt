@@ -2,7 +2,7 @@
 ghost use Prim.Native.Nat.{_≤_};
 ghost use mathlib.Core.List.{_∷_};
 ghost use lib.ListN.{length};
-ghost use Rattle.text.specs.Decimal.{decimalOf, numbersOf};
+ghost use Rattle.text.specs.Decimal.{decimalOf};
 ghost use Rattle.text.specs.Hex.{hexField};
 ghost use Rattle.text.specs.Text.{Puts};
 
@@ -40,20 +40,6 @@ pub fn put_after_blank(number: u64, text: &mut [u8], at: usize) -> usize
 {
     let start = put(b" ", text, at);
     put_number(number, text, start)
-}
-
-// Puts each number after a blank.
-pub fn put_numbers(numbers: &[u32], text: &mut [u8], at: usize) -> usize
-    requires { ⌜ at ≤ length (now text) ⌝ }
-    ensures { λ r. ⌜ Puts (numbersOf (now (numbers .entry))) (now (text .entry)) at (now (text .exit)) r ⌝ }
-{
-    let mut end = at;
-    let mut i = 0;
-    while i < numbers.len() {
-        end = put_after_blank(numbers[i] as u64, text, end);
-        i += 1;
-    }
-    end
 }
 
 // Puts a blank and a field of bytes.

@@ -113,13 +113,40 @@ fn a_query_that_nothing_makes_smaller_stays() {
 
 #[test]
 fn a_line_is_read_as_it_was_written() {
-    for id in [Id::Reconfigure, Id::Change, Id::Div, Id::Wake, Id::Book] {
+    for id in [
+        Id::Reconfigure,
+        Id::Init,
+        Id::Change,
+        Id::Div,
+        Id::Wake,
+        Id::Book,
+        Id::ReadLpsys,
+        Id::PlanCheck,
+    ] {
         let line = any_query(id).query().to_string();
         let read = Owned::parse(&line).expect("a query");
         assert_eq!(read.query().to_string(), line);
         let answered = Owned::parse(&format!("{line} 0 0 0 0 - 00"));
         assert_eq!(answered, Ok(read));
     }
+}
+
+/// Id, cycles and period of a booking; a frequency in MHz; a plan.
+#[test]
+fn an_argument_has_its_high_byte_first() {
+    let argument = |id| {
+        let line = any_query(id).query().to_string();
+        let words: Vec<&str> = line.split(' ').collect();
+        words[words.len() - 4].to_string()
+    };
+    assert_eq!(argument(Id::Book), "2F0000002E0000002D");
+    assert_eq!(argument(Id::Request), "0000002F");
+    assert_eq!(argument(Id::Div), "2F2E2D");
+    assert_eq!(argument(Id::Wake), "-");
+    assert_eq!(
+        argument(Id::Change),
+        "0012010109010501040101040100000001000101"
+    );
 }
 
 #[test]
@@ -129,9 +156,13 @@ fn a_line_that_is_no_query_is_refused() {
         "journal=x wake",
         "sleep 00",
         "hdiv",
-        "hdiv x 00",
-        "hdiv 1 0",
-        "hdiv 1 0G",
+        "hdiv 0x 00 - -",
+        "hdiv 0102 00 - -",
+        "hdiv - 00 - -",
+        "hdiv 01 0 - -",
+        "hdiv 01 0G - -",
+        "hdiv 01 00 -",
+        "init - 00 - 00000001",
     ] {
         assert!(Owned::parse(line).is_err(), "{line}");
     }

@@ -34,16 +34,25 @@ put-words-requires c κs = search needs
 put-bytes-requires : tie.Need-put-bytes-requires
 put-bytes-requires c κs = search needs
 
+array-share-prefix-clocks : tie.Need-array-share-prefix-clocks
+array-share-prefix-clocks c = omega (arith, c .before .before .before .before .before .before .before .before .before .before .before .before .before .before .before .before .before .before .before .before .before .before .before .before .before .before .before .before .before .before .pre, c .before .before .before .before .before .before .before .before .before .before .before .before .before .before .before .before .before .before .before .before .before .before .before .before .before .before .before .before .before .before .good)
+
+slice-aggregate-put-words-2 : tie.Need-slice-aggregate-put-words-2
+slice-aggregate-put-words-2 c = sym (length-take-le _ _ (omega (arith, c .before .before .before .before .before .before .before .before .before .before .before .before .before .before .before .before .before .before .before .before .before .before .before .before .before .before .before .before .before .before .before .pre, c .before .before .before .before .before .before .before .before .before .before .before .before .before .before .before .before .before .before .before .before .before .before .before .before .before .before .before .before .before .before .before .good)))
+
+put-words-requires-2 : tie.Need-put-words-requires-2
+put-words-requires-2 c κs = search needs
+
 same-length : tie.Need-same-length
 same-length c = search needs
 
 returns : tie.Need-returns
 returns c =
-    puts-then (c .before .before .before .before .before .before .before .before .before .before .before .before .before .before .before .before .before .before .before .before .before .before .before .before .put-after-blank .ensures)
-    (puts-then (c .before .before .before .before .before .before .before .before .before .before .before .before .before .before .before .before .before .before .before .put-after-blank2 .ensures)
-    (puts-then (c .before .before .before .before .before .before .before .before .before .before .before .before .before .before .before .put-after-blank3 .ensures)
-    (puts-then (c .before .before .before .before .before .before .before .before .before .before .before .put-after-blank4 .ensures)
-    (puts-then (c .before .before .before .before .before .before .put-words .ensures) (c .before .before .put-bytes .ensures) (omega arith))
+    puts-then (c .before .before .before .before .before .before .before .before .before .before .before .before .before .before .before .before .before .before .before .before .before .before .before .before .before .before .before .before .before .put-after-blank .ensures)
+    (puts-then (c .before .before .before .before .before .before .before .before .before .before .before .before .before .before .before .before .before .before .before .before .before .before .before .before .put-after-blank2 .ensures)
+    (puts-then (c .before .before .before .before .before .before .before .before .before .before .before .before .before .before .before .before .before .before .before .before .put-after-blank3 .ensures)
+    (puts-then (c .before .before .before .before .before .before .before .before .before .before .before .before .before .before .before .before .put-after-blank4 .ensures)
+    (puts-then (c .before .before .before .before .before .before .before .before .before .before .before .put-words .ensures) (puts-then (c .before .before .before .before .before .before .before .put-bytes .ensures) (c .before .before .put-words2 .ensures) (omega arith)) (omega arith))
     (omega arith))
     (omega arith))
     (omega arith))
@@ -62,5 +71,8 @@ put-left-spec =
     slice-aggregate-put-words
     put-words-requires
     put-bytes-requires
+    array-share-prefix-clocks
+    slice-aggregate-put-words-2
+    put-words-requires-2
     same-length
     returns)

@@ -4,11 +4,11 @@ use borrow.Author.Needs.{needs}
 use Rattle.replay.proofs.files.replay_line.Statement.{statement}
 use Rattle.replay.proofs.files.replay_line.Tie as tie
 
-slice-aggregate-replay : tie.Need-slice-aggregate-replay
-slice-aggregate-replay c = search needs
+slice-aggregate-compare : tie.Need-slice-aggregate-compare
+slice-aggregate-compare c = search needs
 
-replay-requires : tie.Need-replay-requires
-replay-requires c κs = search needs
+compare-requires : tie.Need-compare-requires
+compare-requires c κs = search needs
 
 enum-told : tie.Need-enum-told
 enum-told c = search needs
@@ -20,13 +20,13 @@ enum-known-from : tie.Need-enum-known-from
 enum-known-from c = search needs
 
 sub-different : tie.Need-sub-different
-sub-different c = omega (arith, rw (c .before .before .before .from .given .1) at (c .before .before .before .before .before .before .replay .ensures), c .before .before .before .before .before .before .replay .kept .1 .1 .0)
+sub-different c = omega (arith, rw (c .before .before .before .from .given .1) at (c .before .before .before .before .before .before .compare .ensures), (c .before .before .before .before .before .before .compare .kept .1 .1 .1 .0))
 
 part-different-start : tie.Need-part-different-start
-part-different-start c = omega (arith, rw (c .before .before .before .before .from .given .1) at (c .before .before .before .before .before .before .before .replay .ensures), c .before .before .before .before .before .before .before .replay .kept .1 .1 .0)
+part-different-start c = omega (arith, rw (c .before .before .before .before .from .given .1) at (c .before .before .before .before .before .before .before .compare .ensures), (c .before .before .before .before .before .before .before .compare .kept .1 .1 .1 .0))
 
 part-different-end : tie.Need-part-different-end
-part-different-end c = omega (arith, rw (c .before .before .before .before .from .given .1) at (c .before .before .before .before .before .before .before .replay .ensures), c .before .before .before .before .before .before .before .replay .kept .1 .1 .0)
+part-different-end c = omega (arith, rw (c .before .before .before .before .from .given .1) at (c .before .before .before .before .before .before .before .compare .ensures), (c .before .before .before .before .before .before .before .compare .kept .1 .1 .1 .0))
 
 different-requires : tie.Need-different-requires
 different-requires c κs = search needs
@@ -49,15 +49,6 @@ one-replayed-requires-3 c κs = search needs
 one-different-requires-2 : tie.Need-one-different-requires-2
 one-different-requires-2 c κs = search needs
 
-enum-told-3 : tie.Need-enum-told-3
-enum-told-3 c = search needs
-
-malformed-requires : tie.Need-malformed-requires
-malformed-requires c κs = search needs
-
-one-different-requires-3 : tie.Need-one-different-requires-3
-one-different-requires-3 c κs = search needs
-
 returns : tie.Need-returns
 returns c = search needs
 
@@ -67,15 +58,12 @@ returns-2 c = search needs
 returns-3 : tie.Need-returns-3
 returns-3 c = search needs
 
-returns-4 : tie.Need-returns-4
-returns-4 c = search needs
-
 pub replay-line-spec : {M : Type 1} → statement M
 replay-line-spec =
     tie.close
     (tie.spec
-    slice-aggregate-replay
-    replay-requires
+    slice-aggregate-compare
+    compare-requires
     enum-told
     one-replayed-requires
     enum-known-from
@@ -89,10 +77,6 @@ replay-line-spec =
     overwritten-requires
     one-replayed-requires-3
     one-different-requires-2
-    enum-told-3
-    malformed-requires
-    one-different-requires-3
     returns
     returns-2
-    returns-3
-    returns-4)
+    returns-3)

@@ -11,11 +11,11 @@ use Rattle.replay.proofs.files.replay_lines.Statement.{statement}
 use Rattle.replay.proofs.files.replay_lines.Tie as tie
 
 abbrev Inv-loop : tie.InvT-loop
-Inv-loop kind fd block₀ line₀ reader₀ tally₀ number₀ block line reader tally number =
+Inv-loop recorded name fd block₀ line₀ reader₀ tally₀ number₀ block line reader tally number =
     (65536 ≡ length block) × ((4096 ≡ length line) × Within reader 65536)
 
 abbrev μ-loop : tie.MeasureT-loop
-μ-loop kind fd block₀ line₀ reader₀ tally₀ number₀ block line reader tally number = 2 ^ 64 - number
+μ-loop recorded name fd block₀ line₀ reader₀ tally₀ number₀ block line reader tally number = 2 ^ 64 - number
 
 new-requires : tie.Need-new-requires Inv-loop μ-loop
 new-requires c κs = tt

@@ -1,0 +1,30 @@
+-- A line that is put together from a call is the line that the definitions give. Assumes nothing.
+use Prim.Native.Nat.{ℕ, _≤_}
+use mathlib.Core.Path.{_≡_, refl}
+use mathlib.Core.List.{List, [], _++_}
+use native.Mathlib.Omega.{arith}
+use lib.ListN.{length, take, replicate}
+use Rattle.call.specs.declared.Answer.{Answer}
+use Rattle.call.specs.Call.{Result, Answers}
+use Rattle.answered.specs.Answer.{unused}
+use Rattle.call_text.specs.Left.{joined, givenText, leftText}
+use Rattle.replay_calls.specs.declared.Call.{Call}
+use Rattle.replay_calls.specs.Line.{beside, resultOf, clocksAfter, lineOf}
+
+-- an answer's entries lie in the journal where those of its definition do
+pub within : {o : Result} {r : Answer} {b' j' : List ℕ} → Answers o r b' j' → o .entries ≤ length (o .journal) → r .entries ≤ length j'
+within x h = rw (x .entries, x .journal) h
+
+-- a call that is lent no journal leaves one beside it as it is, and writes no entry
+pub beside-answers : {o : Result} {r : Answer} {b' : List ℕ} (j : List ℕ) → Answers o r b' [] → Answers (beside j o) r b' j
+beside-answers j x = record { refusal = x .refusal; value = x .value; entries = x .entries; taken = x .taken; buffer = x .buffer; journal = refl }
+
+pub beside-within : {o : Result} {r : Answer} {b' : List ℕ} (j : List ℕ) → Answers o r b' [] → o .entries ≤ length (o .journal) → r .entries ≤ length j
+beside-within j x h = omega (arith, within x h)
+
+-- what is put of a call, given and left, is its line
+pub line-is : (call : Call) (name x b a former words b' j' clocks : List ℕ) (shown : ℕ) (r : Answer) → words ≡ joined a →
+    Answers (resultOf call x b (replicate 128 unused) words) r b' j' → clocks ≡ clocksAfter call former x b (replicate 128 unused) words →
+    givenText name x b a (take shown former) ++ leftText r b' j' (take shown clocks) ≡ lineOf call name x b a former shown
+line-is call name x b a former words b' j' clocks shown r w h k =
+    rw (k, h .refusal, h .value, h .entries, h .taken, h .buffer, h .journal, w)

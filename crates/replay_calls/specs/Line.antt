@@ -1,0 +1,44 @@
+-- The line that records a call on a head. Assumes nothing.
+use Prim.Native.Nat.{ℕ}
+use mathlib.Core.Path.{_≡_}
+use mathlib.Core.List.{List, _++_}
+use lib.ListN.{take, replicate}
+use Rattle.call.specs.Call.{Result}
+use Rattle.answered.specs.Answer.{unused}
+use Rattle.call_text.specs.Left.{joined, givenText, resultText}
+use Rattle.replay_lpsys.specs.Calls as lpsys
+use Rattle.replay_config.specs.Calls as config
+use Rattle.replay_tasks.specs.Calls as tasks
+use Rattle.replay_calls.specs.declared.Call.{Call}
+use Rattle.replay_calls.specs.declared.Call.the-variants.{Lpsys, Config, Tasks}
+
+-- what a call leaves that is lent no journal, where one lies beside it
+abbrev pub beside : List ℕ → Result → Result
+beside j o = record { refusal = o .refusal; value = o .value; entries = o .entries; taken = o .taken; buffer = o .buffer; journal = j }
+
+-- what a call leaves of a head's buffer and a journal, given an argument's bytes and answers
+abbrev pub resultOf : Call → List ℕ → List ℕ → List ℕ → List ℕ → Result
+resultOf (Lpsys call) x b j a = lpsys.resultOf call x b j a
+resultOf (Config call) x b j a = config.resultOf call x b j a
+resultOf (Tasks call) x b j a = beside j (tasks.resultOf call x b)
+
+-- the clocks that it leaves of the former ones
+abbrev pub clocksAfter : Call → List ℕ → List ℕ → List ℕ → List ℕ → List ℕ → List ℕ
+clocksAfter (Lpsys call) former x b j a = former
+clocksAfter (Config call) former x b j a = config.clocksAfter call former x b j a
+clocksAfter (Tasks call) former x b j a = former
+
+-- the whole line, of a call on a journal of 128 words, with so many of the clocks before and after it: all, or none where it is lent none
+abbrev pub lineOf : Call → List ℕ → List ℕ → List ℕ → List ℕ → List ℕ → ℕ → List ℕ
+lineOf call name x b a former shown =
+    givenText name x b a (take shown former) ++
+    resultText (resultOf call x b (replicate 128 unused) (joined a)) (take shown (clocksAfter call former x b (replicate 128 unused) (joined a)))
+
+-- a line has the name, what the call is given, and what the call leaves of it by its definition
+pub record Recorded (call : Call) (name line : List ℕ) : Type 0 where
+  pub argument : List ℕ
+  pub buffer : List ℕ
+  pub answers : List ℕ
+  pub former : List ℕ
+  pub shown : ℕ
+  pub line-is : line ≡ lineOf call name argument buffer answers former shown

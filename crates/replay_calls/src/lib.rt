@@ -1,0 +1,97 @@
+// Lines that record a call on a head: its name, its argument, the head's buffer, the answers and the
+// clocks that it is lent; then what it left: the refusal or 0, the value, the number of entries and of
+// answers taken, the entries, the buffer and the clocks. Our answer to the same is compared with the
+// recorded one. The whole line is put together anew from what was read of it and from what our call
+// left, so a line that was read wrongly differs.
+ghost use Prim.Native.Nat.{_≤_};
+ghost use mathlib.Core.Path.{_≡_};
+ghost use lib.ListN.{length};
+ghost use Rattle.call.specs.Call.{Answers};
+ghost use Rattle.call_text.specs.Left.{joined};
+ghost use Rattle.answered.specs.Answer.{AnswerWithin};
+ghost use Rattle.replay_calls.specs.Line.{resultOf, clocksAfter, lineOf, Recorded};
+use answered::Outcome;
+use call::Answer;
+
+pub enum Call {
+    Lpsys(replay_lpsys::Call),
+    Config(replay_config::Call),
+    Tasks(replay_tasks::Call),
+}
+
+// Runs a call. `clocks` are the former ones, then those that it leaves.
+fn run(
+    call: Call,
+    argument: &[u8],
+    clocks: &mut [u32; 15],
+    buffer: &mut [u8],
+    journal: &mut [u32],
+    answers: &[u16],
+) -> Answer
+    ensures { λ r. ⌜ Answers (resultOf call (now (argument .entry)) (now (buffer .entry)) (now (journal .entry)) (now (answers .entry))) r (now (buffer .exit)) (now (journal .exit)) ⌝ }
+    ensures { λ _. ⌜ now (clocks .exit) ≡ clocksAfter call (now (clocks .entry)) (now (argument .entry)) (now (buffer .entry)) (now (journal .entry)) (now (answers .entry)) ⌝ }
+    ensures { λ r. ⌜ r .entries ≤ length (now (journal .exit)) ⌝ }
+{
+    match call {
+        Call::Lpsys(call) => replay_lpsys::run(call, argument, buffer, journal, answers),
+        Call::Config(call) => replay_config::run(call, argument, clocks, buffer, journal, answers),
+        Call::Tasks(call) => replay_tasks::run(call, argument, buffer),
+    }
+}
+
+// Runs a call, and compares the line with what it was given and left.
+fn run_line(
+    call: Call,
+    name: &[u8],
+    argument: &[u8],
+    buffer: &mut [u8],
+    answers: &[u8],
+    words: &[u16],
+    former: [u32; 15],
+    shown: usize,
+    line: &[u8],
+    text: &mut [u8],
+) -> Outcome
+    requires { ⌜ (now words ≡ joined (now answers)) × (shown ≤ 15) ⌝ }
+    ensures { λ r. ⌜ AnswerWithin r (length (now (text .entry))) ⌝ }
+    ensures { λ r. ⌜ (r ≡ Outcome.Same → now (line .entry) ≡ lineOf call (now (name .entry)) (now (argument .entry)) (now (buffer .entry)) (now (answers .entry)) former shown) ⌝ }
+{
+    let given = call_text::put_given(name, argument, buffer, answers, former, shown, text);
+    let mut clocks = former;
+    let mut journal = [answered::UNUSED; 128];
+    let answer = run(call, argument, &mut clocks, buffer, &mut journal, words);
+    let end = call_text::put_left(answer, buffer, &journal, clocks, shown, text, given);
+    answered::compare(line, &journal, answer.entries, text, given, end)
+}
+
+// Replays a line of a file of this name. The buffers have room for the bytes of any line of 4,096 digits.
+pub fn call_line(call: Call, name: &[u8], line: &[u8], text: &mut [u8]) -> Outcome
+    ensures { λ r. ⌜ AnswerWithin r (length (now (text .entry))) ⌝ }
+    ensures { λ r. ⌜ (r ≡ Outcome.Same → Recorded call (now (name .entry)) (now (line .entry))) ⌝ }
+{
+    let mut argument = [0u8; 2048];
+    let mut buffer = [0u8; 2048];
+    let mut answers = [0u8; 2048];
+    let mut former = [0u8; 60];
+    let given = fields::decode(line, name.len(), &mut argument);
+    let held = fields::decode(line, given.next, &mut buffer);
+    let lent = fields::decode(line, held.next, &mut answers);
+    let clocks = fields::decode(line, lent.next, &mut former);
+    let a = given.count;
+    let b = held.count;
+    let n = lent.count;
+    let mut words = [0u16; 1024];
+    let joined = call_text::join(&answers[..n], &mut words);
+    run_line(
+        call,
+        name,
+        &argument[..a],
+        &mut buffer[..b],
+        &answers[..n],
+        &words[..joined],
+        call_text::clocks_in(&former),
+        clocks.count / 4,
+        line,
+        text,
+    )
+}
