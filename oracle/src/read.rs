@@ -52,4 +52,9 @@ impl Read {
             lent,
         }
     }
+
+    /// 0, or the refusal number of the first call.
+    pub fn answer(&self) -> u64 {
+        self.words[0] & !REFUSED
+    }
 }
