@@ -4,10 +4,14 @@ use mathlib.Core.Path.{_≡_}
 use mathlib.Core.Bool.{true, false}
 use mathlib.Core.List.{List}
 use lib.Dec.{eqb, ltb}
-use lib.ListN.{length}
+use lib.ListN.{length, take}
 use borrow.Author.Tests.{ne-eqb}
 use Rattle.record.specs.Refusals.{firstOf}
+use Rattle.record.specs.Items.{items}
+use Rattle.record.proofs.Items.{items-length}
 use Rattle.task.specs.Task.{allOk, distinct}
+use Rattle.task_bytes.specs.Tasks.{taskIn, placed}
+use Rattle.task_bytes.proofs.Places.{placed-first}
 use Rattle.load.specs.Load.{loadOf}
 use Rattle.load_check.specs.LoadCheck.{listed, checkRefusal, loadCheck}
 
@@ -43,3 +47,8 @@ module _ (b : List ℕ) where
       pub none : allOk (listed b) ≡ true → distinct (listed b) ≡ true → checkRefusal b ≡ 0
       unfolding checkRefusal firstOf
       none r s = rw (p, q, r, s)
+
+  -- the first places of those read are the list
+  pub first-listed : take (length b / 9) (placed (items taskIn 9 (length b / 9) b) (length b / 9)) ≡ listed b
+  unfolding listed
+  first-listed = placed-first (items taskIn 9 (length b / 9) b) (length b / 9) (items-length taskIn 9 (length b / 9) b)

@@ -34,7 +34,7 @@ pub fn task_at(buffer: &[u8], at: usize) -> Task
 }
 
 // Sixteen places, the first `count` with the tasks from a place of the bytes on, the others empty.
-fn tasks_at(bytes: &[u8], at: usize, count: usize) -> [Task; 16]
+pub fn tasks_at(bytes: &[u8], at: usize, count: usize) -> [Task; 16]
     requires { ⌜ (at + 9 * count ≤ length (now bytes)) × (count ≤ 16) ⌝ }
     ensures { λ r. ⌜ r ≡ placed (items taskIn 9 count (drop at (now (bytes .entry)))) count ⌝ }
 {

@@ -1,13 +1,16 @@
 -- `load_check::load_check` meets its contract: each test that led to a return decides its part of `checkRefusal`.
 -- Assumes nothing.
-use mathlib.Core.Path.{_≡_, sym, _∙_}
+use Prim.Native.Nat.{_/_}
+use mathlib.Core.Path.{_≡_, ap, sym, _∙_}
 use mathlib.Core.Bool.{true, false}
 use native.Mathlib.Omega.{arith}
+use lib.ListN.{length, take}
 use borrow.Author.Needs.{needs}
 use borrow.Author.Tests.{eq-eqb, ne-eqb, lt-ltb, le-ltb, not-true, not-false}
 use Rattle.task.specs.Task.{allOk, distinct}
+use Rattle.load.specs.Load.{loadOf}
 use Rattle.load_check.specs.LoadCheck.{listed}
-use Rattle.load_check.proofs.Cases.{refuses, accepts, not-nine-each, too-many, one-wrong, two-alike, none}
+use Rattle.load_check.proofs.Cases.{refuses, accepts, not-nine-each, too-many, one-wrong, two-alike, none, first-listed}
 use Rattle.load_check.proofs.load_check.Statement.{statement}
 use Rattle.load_check.proofs.load_check.Tie as tie
 
@@ -50,16 +53,20 @@ returns-4 c =
     let fails : distinct (listed b) ≡ false = sym (c .before .before .distinct .ensures) ∙ not-true _ (c .before .if4 .taken) in
     c .refused4 .ensures ∙ refuses b 40 (λ z. omega arith) (two-alike b (eq-eqb _ _ (c .before .before .before .before .before .before .if1 .left)) (le-ltb _ _ (c .before .before .before .before .before .if2 .left)) holds fails)
 
-total-requires : tie.Need-total-requires
-total-requires c κs = search needs
+tasks-at-requires : tie.Need-tasks-at-requires
+tasks-at-requires c κs = search needs
+
+load-requires : tie.Need-load-requires
+load-requires c κs = search needs
 
 returns-5 : tie.Need-returns-5
 unfolding listed
 returns-5 c =
-    let b = c .before .before .before .before .before .before .before .before .args .bytes .now in
-    let holds : allOk (listed b) ≡ true = sym (c .before .before .before .before .all-ok .ensures) ∙ not-false _ (c .before .before .before .if3 .left) in
-    let apart : distinct (listed b) ≡ true = sym (c .before .before .distinct .ensures) ∙ not-false _ (c .before .if4 .left) in
-    rw (c .total .ensures) (accepts b (none b (eq-eqb _ _ (c .before .before .before .before .before .before .if1 .left)) (le-ltb _ _ (c .before .before .before .before .before .if2 .left)) holds apart))
+    let b = c .before .before .before .before .before .before .before .before .before .args .bytes .now in
+    let holds : allOk (listed b) ≡ true = sym (c .before .before .before .before .before .all-ok .ensures) ∙ not-false _ (c .before .before .before .before .if3 .left) in
+    let apart : distinct (listed b) ≡ true = sym (c .before .before .before .distinct .ensures) ∙ not-false _ (c .before .before .if4 .left) in
+    let load = c .load .ensures ∙ ap loadOf (ap (take (length b / 9)) (c .before .tasks-at .ensures) ∙ first-listed b) in
+    rw load (accepts b (none b (eq-eqb _ _ (c .before .before .before .before .before .before .before .if1 .left)) (le-ltb _ _ (c .before .before .before .before .before .before .if2 .left)) holds apart))
 
 pub load-check-spec : {M : Type 1} → statement M
 load-check-spec =
@@ -75,5 +82,6 @@ load-check-spec =
     distinct-requires
     refused-requires-4
     returns-4
-    total-requires
+    tasks-at-requires
+    load-requires
     returns-5)
