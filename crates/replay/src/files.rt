@@ -33,18 +33,18 @@ fn replay_line(recorded: Recorded, name: &[u8], number: u64, tally: Tally, line:
     // As long as the line buffer, so longer than any recorded answer.
     let mut text = [0u8; 4096];
     match compare(recorded, name, line, &mut text) {
-        Outcome::Same => tally.one_replayed(),
+        Outcome::Same => tally.counted(true),
         Outcome::Different { from, to } => {
             if tally.different < SHOWN {
                 report::different(name, number, line, &text[from..to]);
             }
-            tally.one_replayed().one_different()
+            tally.counted(false)
         }
         Outcome::Overwritten => {
             if tally.different < SHOWN {
                 report::overwritten(name, number, line);
             }
-            tally.one_replayed().one_different()
+            tally.counted(false)
         }
     }
 }
@@ -76,11 +76,19 @@ fn replay_lines(recorded: Recorded, name: &[u8], fd: i32) -> Tally {
     tally
 }
 
+// Opens the file NAME.txt for reading.
+fn open(name: &[u8]) -> i32 {
+    let mut path = [0u8; 64];
+    let named = text::put(name, &mut path, 0);
+    let end = text::put(b".txt", &mut path, named);
+    os::open_read(&path[..end])
+}
+
 // Replays the file of a name, and says what it found.
-pub fn replay(recorded: Recorded, name: &[u8], path: &[u8]) {
-    let fd = os::open_read(path);
+pub fn replay(recorded: Recorded, name: &[u8]) {
+    let fd = open(name);
     if fd < 0 {
-        report::unopened(name, path);
+        report::unopened(name);
         report::sums(name, Tally::new().one_different());
         return;
     }

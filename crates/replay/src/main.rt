@@ -9,65 +9,57 @@ use files::Recorded;
 use replay_calls::Call;
 use replay_readings::Reading;
 
-fn reading(reading: Reading, name: &[u8], path: &[u8]) {
-    files::replay(Recorded::Reading(reading), name, path);
-}
-
-fn lpsys(call: replay_lpsys::Call, name: &[u8], path: &[u8]) {
-    files::replay(Recorded::Call(Call::Lpsys(call)), name, path);
-}
-
-fn config(call: replay_config::Call, name: &[u8], path: &[u8]) {
-    files::replay(Recorded::Call(Call::Config(call)), name, path);
-}
-
-fn tasks(call: replay_tasks::Call, name: &[u8], path: &[u8]) {
-    files::replay(Recorded::Call(Call::Tasks(call)), name, path);
-}
-
 fn readings() {
-    reading(Reading::Plan, b"plan", b"plan.txt");
-    reading(Reading::Clocks, b"clocks", b"clocks.txt");
-    reading(Reading::Lpsys, b"lpsys", b"lpsys.txt");
-    reading(Reading::Load, b"load", b"load.txt");
+    files::replay(Recorded::Reading(Reading::Plan), b"plan");
+    files::replay(Recorded::Reading(Reading::Clocks), b"clocks");
+    files::replay(Recorded::Reading(Reading::Lpsys), b"lpsys");
+    files::replay(Recorded::Reading(Reading::Load), b"load");
+}
+
+fn lpsys(call: replay_lpsys::Call, name: &[u8]) {
+    files::replay(Recorded::Call(Call::Lpsys(call)), name);
+}
+
+fn config(call: replay_config::Call, name: &[u8]) {
+    files::replay(Recorded::Call(Call::Config(call)), name);
+}
+
+fn tasks(call: replay_tasks::Call, name: &[u8]) {
+    files::replay(Recorded::Call(Call::Tasks(call)), name);
 }
 
 fn calls_of_lpsys() {
-    lpsys(replay_lpsys::Call::Request, b"request", b"request.txt");
-    lpsys(replay_lpsys::Call::Safe, b"safe", b"safe.txt");
-    lpsys(replay_lpsys::Call::Wake, b"wake", b"wake.txt");
-    lpsys(replay_lpsys::Call::Cancel, b"cancel", b"cancel.txt");
-    lpsys(replay_lpsys::Call::Hxt48, b"hxt48", b"hxt48.txt");
-    lpsys(replay_lpsys::Call::Hdiv, b"hdiv", b"hdiv.txt");
-    lpsys(replay_lpsys::Call::Div, b"div", b"div.txt");
-    lpsys(replay_lpsys::Call::Mac, b"mac", b"mac.txt");
-    lpsys(replay_lpsys::Call::Sysclk, b"sysclk", b"sysclk.txt");
-    lpsys(replay_lpsys::Call::Peri, b"peri", b"peri.txt");
+    lpsys(replay_lpsys::Call::Request, b"request");
+    lpsys(replay_lpsys::Call::Safe, b"safe");
+    lpsys(replay_lpsys::Call::Wake, b"wake");
+    lpsys(replay_lpsys::Call::Cancel, b"cancel");
+    lpsys(replay_lpsys::Call::Hxt48, b"hxt48");
+}
+
+fn setters_of_lpsys() {
+    lpsys(replay_lpsys::Call::Hdiv, b"hdiv");
+    lpsys(replay_lpsys::Call::Div, b"div");
+    lpsys(replay_lpsys::Call::Mac, b"mac");
+    lpsys(replay_lpsys::Call::Sysclk, b"sysclk");
+    lpsys(replay_lpsys::Call::Peri, b"peri");
 }
 
 fn calls_of_config() {
-    config(
-        replay_config::Call::Calibrate,
-        b"calibrate",
-        b"calibrate.txt",
-    );
-    config(replay_config::Call::Init, b"init", b"init.txt");
-    config(
-        replay_config::Call::Reconfigure,
-        b"reconfigure",
-        b"reconfigure.txt",
-    );
-    config(replay_config::Call::Change, b"change", b"change.txt");
+    config(replay_config::Call::Calibrate, b"calibrate");
+    config(replay_config::Call::Init, b"init");
+    config(replay_config::Call::Reconfigure, b"reconfigure");
+    config(replay_config::Call::Change, b"change");
 }
 
 fn calls_of_tasks() {
-    tasks(replay_tasks::Call::Book, b"book", b"book.txt");
-    tasks(replay_tasks::Call::Release, b"release", b"release.txt");
+    tasks(replay_tasks::Call::Book, b"book");
+    tasks(replay_tasks::Call::Release, b"release");
 }
 
 fn main() {
     readings();
     calls_of_lpsys();
+    setters_of_lpsys();
     calls_of_config();
     calls_of_tasks();
 }

@@ -45,11 +45,9 @@ pub fn broken(name: &[u8], number: u64, fault: Fault) {
     }
 }
 
-pub fn unopened(name: &[u8], path: &[u8]) {
+pub fn unopened(name: &[u8]) {
     start(name);
-    say(b"cannot open ");
-    say(path);
-    say(b"\n");
+    say(b"the file cannot be opened\n");
 }
 
 pub fn sums(name: &[u8], tally: Tally) {

@@ -3,7 +3,7 @@
 
 pub struct Tally {
     pub replayed: u64,
-    // What could not be replayed counts here too.
+    // A file that could not be read to its end counts here too.
     pub different: u64,
 }
 
@@ -15,11 +15,15 @@ impl Tally {
         }
     }
 
-    pub fn one_replayed(mut self) -> Tally {
+    // One line more.
+    pub fn counted(mut self, is_same: bool) -> Tally {
         if self.replayed < u64::MAX {
             self.replayed += 1;
         }
-        self
+        if is_same {
+            return self;
+        }
+        self.one_different()
     }
 
     pub fn one_different(mut self) -> Tally {

@@ -14,19 +14,19 @@ enum-known-call : tie.Need-enum-known-call
 enum-known-call c = search needs
 
 run-requires : tie.Need-run-requires
-run-requires c κs = search needs
+run-requires c κs = tt
 
 enum-known-call-2 : tie.Need-enum-known-call-2
 enum-known-call-2 c = search needs
 
 run-requires-2 : tie.Need-run-requires-2
-run-requires-2 c κs = search needs
+run-requires-2 c κs = tt
 
 enum-known-call-3 : tie.Need-enum-known-call-3
 enum-known-call-3 c = search needs
 
 run-requires-3 : tie.Need-run-requires-3
-run-requires-3 c κs = search needs
+run-requires-3 c κs = tt
 
 same-length : tie.Need-same-length
 same-length c = search needs

@@ -8,13 +8,13 @@ slice-aggregate-compare : tie.Need-slice-aggregate-compare
 slice-aggregate-compare c = search needs
 
 compare-requires : tie.Need-compare-requires
-compare-requires c κs = search needs
+compare-requires c κs = tt
 
 enum-told : tie.Need-enum-told
 enum-told c = search needs
 
-one-replayed-requires : tie.Need-one-replayed-requires
-one-replayed-requires c κs = search needs
+counted-requires : tie.Need-counted-requires
+counted-requires c κs = tt
 
 enum-known-from : tie.Need-enum-known-from
 enum-known-from c = search needs
@@ -29,34 +29,28 @@ part-different-end : tie.Need-part-different-end
 part-different-end c = omega (arith, rw (c .before .before .before .before .from .given .1) at (c .before .before .before .before .before .before .before .compare .ensures), (c .before .before .before .before .before .before .before .compare .kept .1 .1 .1 .0))
 
 different-requires : tie.Need-different-requires
-different-requires c κs = search needs
+different-requires c κs = tt
 
-one-replayed-requires-2 : tie.Need-one-replayed-requires-2
-one-replayed-requires-2 c κs = search needs
-
-one-different-requires : tie.Need-one-different-requires
-one-different-requires c κs = search needs
+counted-requires-2 : tie.Need-counted-requires-2
+counted-requires-2 c κs = tt
 
 enum-told-2 : tie.Need-enum-told-2
 enum-told-2 c = search needs
 
 overwritten-requires : tie.Need-overwritten-requires
-overwritten-requires c κs = search needs
+overwritten-requires c κs = tt
 
-one-replayed-requires-3 : tie.Need-one-replayed-requires-3
-one-replayed-requires-3 c κs = search needs
-
-one-different-requires-2 : tie.Need-one-different-requires-2
-one-different-requires-2 c κs = search needs
+counted-requires-3 : tie.Need-counted-requires-3
+counted-requires-3 c κs = tt
 
 returns : tie.Need-returns
-returns c = search needs
+returns c = tt
 
 returns-2 : tie.Need-returns-2
-returns-2 c = search needs
+returns-2 c = tt
 
 returns-3 : tie.Need-returns-3
-returns-3 c = search needs
+returns-3 c = tt
 
 pub replay-line-spec : {M : Type 1} → statement M
 replay-line-spec =
@@ -65,18 +59,16 @@ replay-line-spec =
     slice-aggregate-compare
     compare-requires
     enum-told
-    one-replayed-requires
+    counted-requires
     enum-known-from
     sub-different
     part-different-start
     part-different-end
     different-requires
-    one-replayed-requires-2
-    one-different-requires
+    counted-requires-2
     enum-told-2
     overwritten-requires
-    one-replayed-requires-3
-    one-different-requires-2
+    counted-requires-3
     returns
     returns-2
     returns-3)
