@@ -32,7 +32,7 @@ pub fn clocks_in(bytes: &[u8]) -> [u32; 15] {
     clocks
 }
 
-// Puts what a call is given; of the clocks the first `shown`, all or none.
+// Puts what a call is given; of the clocks the first `shown`, which are none where it is lent none.
 pub fn put_given(
     name: &[u8],
     argument: &[u8],

@@ -18,7 +18,7 @@ pub enum Recorded {
 // How many of the differing lines are shown.
 const SHOWN: u64 = 10;
 
-// Compares our answer with a line. It goes to the start of `text`.
+// Compares a line with ours, which goes to the start of `text`.
 fn compare(recorded: Recorded, name: &[u8], line: &[u8], text: &mut [u8]) -> Outcome
     ensures { λ r. ⌜ AnswerWithin r (length (now (text .entry))) ⌝ }
 {

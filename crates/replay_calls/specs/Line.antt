@@ -28,7 +28,7 @@ clocksAfter (Lpsys call) former x b j a = former
 clocksAfter (Config call) former x b j a = config.clocksAfter call former x b j a
 clocksAfter (Tasks call) former x b j a = former
 
--- the whole line, of a call on a journal of 128 words, with so many of the clocks before and after it: all, or none where it is lent none
+-- the whole line, of a call on a journal of 128 words; it shows as many of the clocks after the call as before it
 abbrev pub lineOf : Call → List ℕ → List ℕ → List ℕ → List ℕ → List ℕ → ℕ → List ℕ
 lineOf call name x b a former shown =
     givenText name x b a (take shown former) ++
