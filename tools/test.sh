@@ -58,9 +58,9 @@ has_memory_folder() {
     return "$status"
 }
 
-# rt starts the next checks when all of those that it started have ended: with four to a processor few wait; each may take 2 GiB.
+# rt starts the next checks when all of those that it started have ended, so two to a processor keep it busy; each may take 2 GiB.
 jobs() {
-    local wanted=$((4 * $(nproc))) room
+    local wanted=$((2 * $(nproc))) room
     room=$(awk '/^MemAvailable:/ { print int($2 / 2097152) }' /proc/meminfo)
     echo $((room < 1 ? 1 : room < wanted ? room : wanted))
 }
