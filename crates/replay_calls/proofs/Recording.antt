@@ -8,8 +8,10 @@ use Rattle.call.specs.declared.Answer.{Answer}
 use Rattle.call.specs.Call.{Result, Answers}
 use Rattle.answered.specs.Answer.{unused}
 use Rattle.call_text.specs.Left.{joined, givenText, leftText}
+use Rattle.replay_config.proofs.Laws.{lent-most}
 use Rattle.replay_calls.specs.declared.Call.{Call}
-use Rattle.replay_calls.specs.Line.{beside, resultOf, clocksAfter, lineOf}
+use Rattle.replay_calls.specs.declared.Call.the-variants.{Lpsys, Config, Tasks}
+use Rattle.replay_calls.specs.Line.{beside, lentClocks, resultOf, clocksAfter, lineOf}
 
 -- an answer's entries lie in the journal where those of its definition do
 pub within : {o : Result} {r : Answer} {b' j' : List ℕ} → Answers o r b' j' → o .entries ≤ length (o .journal) → r .entries ≤ length j'
@@ -22,9 +24,15 @@ beside-answers j x = record { refusal = x .refusal; value = x .value; entries = 
 pub beside-within : {o : Result} {r : Answer} {b' : List ℕ} (j : List ℕ) → Answers o r b' [] → o .entries ≤ length (o .journal) → r .entries ≤ length j
 beside-within j x h = omega (arith, within x h)
 
+-- no more clocks than there are
+pub shown-most : (call : Call) → lentClocks call ≤ 15
+shown-most (Lpsys call) = omega arith
+shown-most (Config call) = lent-most call
+shown-most (Tasks call) = omega arith
+
 -- what is put of a call, given and left, is its line
-pub line-is : (call : Call) (name x b a former words b' j' clocks : List ℕ) (shown : ℕ) (r : Answer) → words ≡ joined a →
+pub line-is : (call : Call) (name x b a former words b' j' clocks : List ℕ) (shown : ℕ) (r : Answer) → words ≡ joined a → shown ≡ lentClocks call →
     Answers (resultOf call x b (replicate 128 unused) words) r b' j' → clocks ≡ clocksAfter call former x b (replicate 128 unused) words →
-    givenText name x b a (take shown former) ++ leftText r b' j' (take shown clocks) ≡ lineOf call name x b a former shown
-line-is call name x b a former words b' j' clocks shown r w h k =
-    rw (k, h .refusal, h .value, h .entries, h .taken, h .buffer, h .journal, w)
+    givenText name x b a (take shown former) ++ leftText r b' j' (take shown clocks) ≡ lineOf call name x b a former
+line-is call name x b a former words b' j' clocks shown r w e h k =
+    rw (k, e, h .refusal, h .value, h .entries, h .taken, h .buffer, h .journal, w)

@@ -16,6 +16,12 @@ use Rattle.replay_calls.specs.declared.Call.the-variants.{Lpsys, Config,
 abbrev pub beside : List ℕ → Result → Result
 beside j o = record { refusal = o .refusal; value = o .value; entries = o .entries; taken = o .taken; buffer = o .buffer; journal = j }
 
+-- how many clocks a call is lent
+abbrev pub lentClocks : Call → ℕ
+lentClocks (Lpsys call) = 0
+lentClocks (Config call) = config.lentClocks call
+lentClocks (Tasks call) = 0
+
 -- what a call leaves of a head's buffer and a journal, given an argument's bytes and answers
 abbrev pub resultOf : Call → List ℕ → List ℕ → List ℕ → List ℕ → Result
 resultOf (Lpsys call) x b j a = lpsys.resultOf call x b j a
@@ -28,11 +34,11 @@ clocksAfter (Lpsys call) former x b j a = former
 clocksAfter (Config call) former x b j a = config.clocksAfter call former x b j a
 clocksAfter (Tasks call) former x b j a = former
 
--- the whole line, of a call on a journal of 128 words; it shows as many of the clocks after the call as before it
-abbrev pub lineOf : Call → List ℕ → List ℕ → List ℕ → List ℕ → List ℕ → ℕ → List ℕ
-lineOf call name x b a former shown =
-    givenText name x b a (take shown former) ++
-    resultText (resultOf call x b (replicate 128 unused) (joined a)) (take shown (clocksAfter call former x b (replicate 128 unused) (joined a)))
+-- the whole line, of a call on a journal of 128 words, with the clocks that it is lent before and after it
+abbrev pub lineOf : Call → List ℕ → List ℕ → List ℕ → List ℕ → List ℕ → List ℕ
+lineOf call name x b a former =
+    givenText name x b a (take (lentClocks call) former) ++
+    resultText (resultOf call x b (replicate 128 unused) (joined a)) (take (lentClocks call) (clocksAfter call former x b (replicate 128 unused) (joined a)))
 
 -- a line has the name, what the call is given, and what the call leaves of it by its definition
 pub record Recorded (call : Call) (name line : List ℕ) : Type 0 where
@@ -40,5 +46,4 @@ pub record Recorded (call : Call) (name line : List ℕ) : Type 0 where
   pub buffer : List ℕ
   pub answers : List ℕ
   pub former : List ℕ
-  pub shown : ℕ
-  pub line-is : line ≡ lineOf call name argument buffer answers former shown
+  pub line-is : line ≡ lineOf call name argument buffer answers former

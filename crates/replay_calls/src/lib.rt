@@ -9,7 +9,7 @@ ghost use lib.ListN.{length};
 ghost use Rattle.call.specs.Call.{Answers};
 ghost use Rattle.call_text.specs.Left.{joined};
 ghost use Rattle.answered.specs.Answer.{AnswerWithin};
-ghost use Rattle.replay_calls.specs.Line.{resultOf, clocksAfter, lineOf, Recorded};
+ghost use Rattle.replay_calls.specs.Line.{lentClocks, resultOf, clocksAfter, lineOf, Recorded};
 use answered::Outcome;
 use call::Answer;
 
@@ -17,6 +17,16 @@ pub enum Call {
     Lpsys(replay_lpsys::Call),
     Config(replay_config::Call),
     Tasks(replay_tasks::Call),
+}
+
+fn lent_clocks(call: Call) -> usize
+    ensures { λ r. ⌜ r ≡ lentClocks call ⌝ }
+{
+    match call {
+        Call::Lpsys(_) => 0,
+        Call::Config(call) => replay_config::lent_clocks(call),
+        Call::Tasks(_) => 0,
+    }
 }
 
 // Runs a call. `clocks` are the former ones, then those that it leaves.
@@ -52,9 +62,9 @@ fn run_line(
     line: &[u8],
     text: &mut [u8],
 ) -> Outcome
-    requires { ⌜ (now words ≡ joined (now answers)) × (shown ≤ 15) ⌝ }
+    requires { ⌜ (now words ≡ joined (now answers)) × (shown ≡ lentClocks call) ⌝ }
     ensures { λ r. ⌜ AnswerWithin r (length (now (text .entry))) ⌝ }
-    ensures { λ r. ⌜ (r ≡ Outcome.Same → now (line .entry) ≡ lineOf call (now (name .entry)) (now (argument .entry)) (now (buffer .entry)) (now (answers .entry)) former shown) ⌝ }
+    ensures { λ r. ⌜ (r ≡ Outcome.Same → now (line .entry) ≡ lineOf call (now (name .entry)) (now (argument .entry)) (now (buffer .entry)) (now (answers .entry)) former) ⌝ }
 {
     let given = call_text::put_given(name, argument, buffer, answers, former, shown, text);
     let mut clocks = former;
@@ -76,7 +86,7 @@ pub fn call_line(call: Call, name: &[u8], line: &[u8], text: &mut [u8]) -> Outco
     let given = fields::decode(line, name.len(), &mut argument);
     let held = fields::decode(line, given.next, &mut buffer);
     let lent = fields::decode(line, held.next, &mut answers);
-    let clocks = fields::decode(line, lent.next, &mut former);
+    fields::decode(line, lent.next, &mut former);
     let a = given.count;
     let b = held.count;
     let n = lent.count;
@@ -90,7 +100,7 @@ pub fn call_line(call: Call, name: &[u8], line: &[u8], text: &mut [u8]) -> Outco
         &answers[..n],
         &words[..joined],
         call_text::clocks_in(&former),
-        clocks.count / 4,
+        lent_clocks(call),
         line,
         text,
     )

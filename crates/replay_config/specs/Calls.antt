@@ -8,6 +8,13 @@ use Rattle.clock_config.specs.Calls.{initCall, initClocks, reconfigureCall, rec
 use Rattle.replay_config.specs.declared.Call.{Call}
 use Rattle.replay_config.specs.declared.Call.the-variants.{Calibrate, Init, Reconfigure, Change}
 
+-- how many clocks a call is lent: `init` the new ones to write, `reconfigure_sysclk` the former ones
+abbrev pub lentClocks : Call → ℕ
+lentClocks Calibrate = 0
+lentClocks Init = 15
+lentClocks Reconfigure = 15
+lentClocks Change = 0
+
 -- what a call leaves of a head's buffer and a journal, given a plan's bytes and answers
 abbrev pub resultOf : Call → List ℕ → List ℕ → List ℕ → List ℕ → Result
 resultOf Calibrate pb b j a = calibration b j a

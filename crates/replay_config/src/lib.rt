@@ -1,7 +1,7 @@
 // The calls of rcc/clock_config.rs and the guarded change, run on a plan's bytes.
 ghost use mathlib.Core.Path.{_≡_};
 ghost use Rattle.call.specs.Call.{Answers};
-ghost use Rattle.replay_config.specs.Calls.{resultOf, clocksAfter};
+ghost use Rattle.replay_config.specs.Calls.{lentClocks, resultOf, clocksAfter};
 use call::Answer;
 
 pub enum Call {
@@ -9,6 +9,18 @@ pub enum Call {
     Init,
     Reconfigure,
     Change,
+}
+
+// How many clocks a call is lent.
+pub fn lent_clocks(call: Call) -> usize
+    ensures { λ r. ⌜ r ≡ lentClocks call ⌝ }
+{
+    match call {
+        Call::Calibrate => 0,
+        Call::Init => 15,
+        Call::Reconfigure => 15,
+        Call::Change => 0,
+    }
 }
 
 // Runs a call. `clocks` are the former ones, then those that it leaves.

@@ -74,6 +74,9 @@ slice-aggregate-clocks-in c = search needs
 clocks-in-requires : tie.Need-clocks-in-requires
 clocks-in-requires c κs = search needs
 
+lent-clocks-requires : tie.Need-lent-clocks-requires
+lent-clocks-requires c κs = search needs
+
 run-line-requires : tie.Need-run-line-requires
 run-line-requires c κs = search needs
 
@@ -83,7 +86,7 @@ same-length c = search needs
 returns : tie.Need-returns
 returns c =
     let run = c .before .before .before .run-line in
-    (run .ensures .0, λ e. record { argument = _; buffer = _; answers = _; former = c .before .before .before .before .before .before .clocks-in .result; shown = c .before .before .before .before .before .before .before .before .before .before .before .before .before .before .before .before .before .decode4 .result .count / 4; line-is = run .ensures .1 e })
+    (run .ensures .0, λ e. record { argument = _; buffer = _; answers = _; former = c .before .before .before .before .before .before .clocks-in .result; line-is = run .ensures .1 e })
 
 pub call-line-spec : {M : Type 1} → statement M
 call-line-spec =
@@ -111,6 +114,7 @@ call-line-spec =
     slice-aggregate-run-line-4
     slice-aggregate-clocks-in
     clocks-in-requires
+    lent-clocks-requires
     run-line-requires
     same-length
     returns)

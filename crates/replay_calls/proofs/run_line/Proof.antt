@@ -1,5 +1,5 @@
 -- `replay_calls::run_line` meets its contract: the text is that of the call, given and left. Assumes nothing.
-use Rattle.replay_calls.proofs.Recording.{line-is}
+use Rattle.replay_calls.proofs.Recording.{shown-most, line-is}
 use Rattle.answered.proofs.Comparing.{same-line}
 use Rattle.call_text.specs.Left.{givenText}
 use lib.ListN.{take}
@@ -10,7 +10,7 @@ use Rattle.replay_calls.proofs.run_line.Statement.{statement}
 use Rattle.replay_calls.proofs.run_line.Tie as tie
 
 put-given-requires : tie.Need-put-given-requires
-put-given-requires c κs = search needs
+put-given-requires c κs = rw (c .before .before .before .before .before .before .before .before .before .pre .1) (shown-most (c .before .before .before .before .before .before .before .before .before .args .call))
 
 slice-aggregate-run : tie.Need-slice-aggregate-run
 slice-aggregate-run c = search needs
@@ -22,7 +22,7 @@ slice-aggregate-put-left : tie.Need-slice-aggregate-put-left
 slice-aggregate-put-left c = search needs
 
 put-left-requires : tie.Need-put-left-requires
-put-left-requires c κs = (omega arith, ((c .before .before .before .before .before .before .run .ensures .1 .1), (c .before .before .before .before .before .before .before .before .before .before .before .before .before .before .before .before .before .before .before .before .before .before .pre .1)))
+put-left-requires c κs = (omega arith, ((c .before .before .before .before .before .before .run .ensures .1 .1), (rw (c .before .before .before .before .before .before .before .before .before .before .before .before .before .before .before .before .before .before .before .before .before .before .pre .1) (shown-most (c .before .before .before .before .before .before .before .before .before .before .before .before .before .before .before .before .before .before .before .before .before .before .args .call)))))
 
 slice-aggregate-compare : tie.Need-slice-aggregate-compare
 slice-aggregate-compare c = search needs
@@ -43,7 +43,7 @@ returns c =
     let run = c .before .before .before .before .before .before .before .before .before .before .before .before .run in
     let left = c .before .before .before .before .before .put-left in
     let given = givenText (args .name .now) (args .argument .now) (args .buffer .now) (args .answers .now) (take (args .shown) (args .former)) in
-    let line = line-is (args .call) (args .name .now) (args .argument .now) (args .buffer .now) (args .answers .now) (args .former) (args .words .now) _ _ _ (args .shown) (run .result) (c .before .before .before .before .before .before .before .before .before .before .before .before .before .before .before .before .before .before .before .before .before .before .before .before .before .before .before .before .pre .0) (run .ensures .0) (run .ensures .1 .0) in (
+    let line = line-is (args .call) (args .name .now) (args .argument .now) (args .buffer .now) (args .answers .now) (args .former) (args .words .now) _ _ _ (args .shown) (run .result) (c .before .before .before .before .before .before .before .before .before .before .before .before .before .before .before .before .before .before .before .before .before .before .before .before .before .before .before .before .pre .0) (c .before .before .before .before .before .before .before .before .before .before .before .before .before .before .before .before .before .before .before .before .before .before .before .before .before .before .before .before .pre .1) (run .ensures .0) (run .ensures .1 .0) in (
       rw (left .kept .1 .1 .1 .1 .1 .0, front .kept .1 .1 .1 .1 .1 .1 .0) at (c .compare .ensures .0),
       λ e. same-line {given = given} (front .ensures) (left .ensures) ((c .compare .ensures .1) e) (front .kept .1 .1 .1 .1 .1 .1 .0) (left .kept .1 .1 .1 .1 .1 .0) ∙ line,
     )
