@@ -5,8 +5,8 @@ use lib.ListN.{take}
 use Rattle.record.specs.Bytes.{twoBytes}
 use Rattle.call.specs.Call.{Result}
 use Rattle.call.specs.declared.Answer.{Answer}
-use Rattle.text.specs.Decimal.{decimalOf}
-use Rattle.text.specs.Hex.{hexField}
+use Rattle.text.specs.Decimal.{numberField}
+use Rattle.text.specs.Hex.{byteField, wordField}
 
 -- answers, which stand in a line as two bytes each
 unfoldable pub joined : List ℕ → List ℕ
@@ -14,24 +14,14 @@ joined [] = []
 joined (high ∷ []) = []
 joined (high ∷ low ∷ bytes) = twoBytes high low ∷ joined bytes
 
--- a number, bytes and words, each after a blank
-abbrev pub number : ℕ → List ℕ
-number n = 32 ∷ decimalOf n
-
-abbrev pub bytes : List ℕ → List ℕ
-bytes s = 32 ∷ hexField 2 s
-
-abbrev pub words : List ℕ → List ℕ
-words s = 32 ∷ hexField 8 s
-
 -- what a call is given: its name, its argument, the buffer, the answers, the clocks before it
 abbrev pub givenText : List ℕ → List ℕ → List ℕ → List ℕ → List ℕ → List ℕ
-givenText name x b a former = name ++ (bytes x ++ (bytes b ++ (bytes a ++ words former)))
+givenText name x b a former = name ++ (byteField x ++ (byteField b ++ (byteField a ++ wordField former)))
 
 -- what it leaves: refusal, value, counts of entries and of answers taken, the entries, the buffer, the clocks
 abbrev pub leftText : Answer → List ℕ → List ℕ → List ℕ → List ℕ
 leftText r b j clocks =
-    number (r .refusal) ++ (number (r .value) ++ (number (r .entries) ++ (number (r .taken) ++ (words (take (r .entries) j) ++ (bytes b ++ words clocks)))))
+    numberField (r .refusal) ++ (numberField (r .value) ++ (numberField (r .entries) ++ (numberField (r .taken) ++ (wordField (take (r .entries) j) ++ (byteField b ++ wordField clocks)))))
 
 abbrev pub resultText : Result → List ℕ → List ℕ
 resultText o clocks =

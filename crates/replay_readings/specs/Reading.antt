@@ -1,37 +1,37 @@
 -- The line that records a reading. Assumes nothing.
 use Prim.Native.Nat.{ℕ}
 use mathlib.Core.Path.{_≡_}
-use mathlib.Core.List.{List, _∷_, _++_}
+use mathlib.Core.List.{List, _++_}
 use lib.ListN.{replicate}
 use Rattle.verdict.specs.Verdict.{verdict, numberOf}
 use Rattle.load_check.specs.LoadCheck.{loadCheck}
 use Rattle.head.specs.Head.{headRefusal, headOf}
 use Rattle.head_clocks.specs.Clocks.{clocksOf, lpsysOf, unlessRefused}
-use Rattle.text.specs.Decimal.{decimalOf}
-use Rattle.text.specs.Hex.{hexField}
+use Rattle.text.specs.Decimal.{numberField}
+use Rattle.text.specs.Hex.{byteField, wordField}
 use Rattle.answered.specs.Answer.{unused}
 use Rattle.replay_readings.specs.declared.Reading.{Reading}
 use Rattle.replay_readings.specs.declared.Reading.the-variants.{Plan, Clocks, Lpsys, Load}
 
 -- the refusal or 0, and the 15 or six frequencies in a list that held a mark before the call
 abbrev pub clocksText : List ℕ → List ℕ
-clocksText b = (32 ∷ decimalOf (headRefusal b)) ++ (32 ∷ hexField 8 (unlessRefused b (clocksOf (headOf b)) (replicate 15 unused)))
+clocksText b = numberField (headRefusal b) ++ wordField (unlessRefused b (clocksOf (headOf b)) (replicate 15 unused))
 
 abbrev pub lpsysText : List ℕ → List ℕ
-lpsysText b = (32 ∷ decimalOf (headRefusal b)) ++ (32 ∷ hexField 8 (unlessRefused b (lpsysOf (headOf b)) (replicate 6 unused)))
+lpsysText b = numberField (headRefusal b) ++ wordField (unlessRefused b (lpsysOf (headOf b)) (replicate 6 unused))
 
 -- the refusal or 0, and the load
 abbrev pub loadText : List ℕ → List ℕ
-loadText b = (32 ∷ decimalOf (loadCheck b .refusal)) ++ (32 ∷ decimalOf (loadCheck b .load))
+loadText b = numberField (loadCheck b .refusal) ++ numberField (loadCheck b .load)
 
 -- what a reading of bytes answers; of a plan, 0 or the refusal
 abbrev pub answerText : Reading → List ℕ → List ℕ
-answerText Plan b = 32 ∷ decimalOf (numberOf (verdict b))
+answerText Plan b = numberField (numberOf (verdict b))
 answerText Clocks b = clocksText b
 answerText Lpsys b = lpsysText b
 answerText Load b = loadText b
 
 -- a line has the name, some bytes, and what the reading answers of them by its definition
 pub record Recorded (reading : Reading) (name line : List ℕ) : Type 0 where
-  pub bytes : List ℕ
-  pub line-is : line ≡ (name ++ (32 ∷ hexField 2 bytes)) ++ answerText reading bytes
+  pub read : List ℕ
+  pub line-is : line ≡ (name ++ byteField read) ++ answerText reading read

@@ -13,3 +13,7 @@ digitsOf (suc most) n = cond (ltb n 10) (glyph n ∷ []) (digitsOf most (n / 10)
 -- a number of 64 bits in decimal, which takes 20 digits at most
 abbrev pub decimalOf : ℕ → List ℕ
 decimalOf n = digitsOf 20 n
+
+-- a number after a blank
+abbrev pub numberField : ℕ → List ℕ
+numberField n = 32 ∷ decimalOf n

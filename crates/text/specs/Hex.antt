@@ -12,3 +12,10 @@ hexOf k (n ∷ ns) = hexDigits k n ++ hexOf k ns
 unfoldable pub hexField : ℕ → List ℕ → List ℕ
 hexField k [] = 45 ∷ []
 hexField k (n ∷ ns) = hexOf k (n ∷ ns)
+
+-- bytes and words, each after a blank
+abbrev pub byteField : List ℕ → List ℕ
+byteField s = 32 ∷ hexField 2 s
+
+abbrev pub wordField : List ℕ → List ℕ
+wordField s = 32 ∷ hexField 8 s

@@ -1,9 +1,8 @@
 // Text that is put together in a lent buffer, part by part.
 ghost use Prim.Native.Nat.{_≤_};
-ghost use mathlib.Core.List.{_∷_};
 ghost use lib.ListN.{length};
-ghost use Rattle.text.specs.Decimal.{decimalOf};
-ghost use Rattle.text.specs.Hex.{hexField};
+ghost use Rattle.text.specs.Decimal.{decimalOf, numberField};
+ghost use Rattle.text.specs.Hex.{byteField, wordField};
 ghost use Rattle.text.specs.Text.{Puts};
 
 // Puts bytes into the text from `at` on, and answers the place after them, or the text's end where
@@ -36,7 +35,7 @@ pub fn put_number(number: u64, text: &mut [u8], at: usize) -> usize
 // Puts a blank and a number.
 pub fn put_after_blank(number: u64, text: &mut [u8], at: usize) -> usize
     requires { ⌜ at ≤ length (now text) ⌝ }
-    ensures { λ r. ⌜ Puts (32 ∷ decimalOf number) (now (text .entry)) at (now (text .exit)) r ⌝ }
+    ensures { λ r. ⌜ Puts (numberField number) (now (text .entry)) at (now (text .exit)) r ⌝ }
 {
     let start = put(b" ", text, at);
     put_number(number, text, start)
@@ -45,7 +44,7 @@ pub fn put_after_blank(number: u64, text: &mut [u8], at: usize) -> usize
 // Puts a blank and a field of bytes.
 pub fn put_bytes(bytes: &[u8], text: &mut [u8], at: usize) -> usize
     requires { ⌜ at ≤ length (now text) ⌝ }
-    ensures { λ r. ⌜ Puts (32 ∷ hexField 2 (now (bytes .entry))) (now (text .entry)) at (now (text .exit)) r ⌝ }
+    ensures { λ r. ⌜ Puts (byteField (now (bytes .entry))) (now (text .entry)) at (now (text .exit)) r ⌝ }
 {
     if bytes.len() == 0 {
         return put(b" -", text, at);
@@ -62,7 +61,7 @@ pub fn put_bytes(bytes: &[u8], text: &mut [u8], at: usize) -> usize
 // Puts a blank and a field of words.
 pub fn put_words(words: &[u32], text: &mut [u8], at: usize) -> usize
     requires { ⌜ at ≤ length (now text) ⌝ }
-    ensures { λ r. ⌜ Puts (32 ∷ hexField 8 (now (words .entry))) (now (text .entry)) at (now (text .exit)) r ⌝ }
+    ensures { λ r. ⌜ Puts (wordField (now (words .entry))) (now (text .entry)) at (now (text .exit)) r ⌝ }
 {
     if words.len() == 0 {
         return put(b" -", text, at);

@@ -48,7 +48,7 @@ returns : tie.Need-returns
 returns c =
     let front = puts-then (c .before .before .before .before .before .before .before .before .before .before .before .before .before .before .before .put .ensures) (c .before .before .before .before .before .before .before .before .before .before .put-bytes .ensures) (omega arith) in (
       rw ((c .before .before .before .before .before .put-answer .kept .1 .1 .0), (c .before .before .before .before .before .before .before .before .before .before .put-bytes .kept .1 .0), (c .before .before .before .before .before .before .before .before .before .before .before .before .before .before .before .put .kept .1 .0)) at (c .compare .ensures .0),
-      λ e. record { bytes = _; line-is = same-line front (c .before .before .before .before .before .put-answer .ensures) ((c .compare .ensures .1) e) (omega arith) (omega arith) },
+      λ e. record { read = _; line-is = same-line front (c .before .before .before .before .before .put-answer .ensures) ((c .compare .ensures .1) e) (omega arith) (omega arith) },
     )
 
 pub reading-line-spec : {M : Type 1} → statement M
