@@ -74,6 +74,10 @@ run: build/daemon target/bin/moments
 	@echo 'a head at 240 MHz with tasks that are 110 percent of a slower plan:'
 	@target/bin/moments examples/heads/s240-tasks.head examples/plans/dll1-144.plan
 
+build/long-slices: tools/long-slices.c
+	@mkdir -p build
+	@$(CC) -std=c99 $(STRICT) $(CFLAGS) -o $@ $<
+
 test:
 	@tools/test.sh
 

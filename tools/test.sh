@@ -58,9 +58,9 @@ has_memory_folder() {
     return "$status"
 }
 
-# rt starts the next checks when all of those that it started have ended, so two to a processor keep it busy; each may take 2 GiB.
+# rt starts the next checks when all of those that it started have ended, so four to a processor keep it busy; each may take 2 GiB.
 jobs() {
-    local wanted=$((2 * $(nproc))) room
+    local wanted=$((4 * $(nproc))) room
     room=$(awk '/^MemAvailable:/ { print int($2 / 2097152) }' /proc/meminfo)
     echo $((room < 1 ? 1 : room < wanted ? room : wanted))
 }
@@ -71,7 +71,8 @@ rt_ci() {
     if [ -z "${TMPDIR:-}" ] && has_memory_folder; then
         export TMPDIR=/dev/shm
     fi
-    rt ci 2>&1 | tee "$log" || return
+    part build/long-slices
+    build/long-slices rt ci 2>&1 | tee "$log" || return
     tail -n 1 "$log" | grep -qxE '[0-9]+ passed, 0 failed'
 }
 
