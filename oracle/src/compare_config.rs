@@ -21,7 +21,7 @@ use sifli::plan::{DEFAULT, at as field};
 use sifli::query::{Call, Clocks, Query};
 use sifli::random::Random;
 
-const RANDOM: Number = Number::new(1_000_000, 400_000);
+const RANDOM: Number = Number::new(1_000_000, 150_000);
 const DAMAGED: Number = Number::new(400_000, 60_000);
 
 /// Plans from which those of random calls are drawn.

@@ -11,7 +11,7 @@ use crate::tally::Tally;
 use sifli::head::{BUFFER, Head, LONGEST_PERIOD, MOST_TASKS, TASK, at};
 use sifli::random::Random;
 
-const RANDOM: Number = Number::new(4_000_000, 1_000_000);
+const RANDOM: Number = Number::new(4_000_000, 250_000);
 
 /// A length field that is above that of every count of one byte.
 const PAST_ALL_LENGTHS: u16 = 109 + 9 * 256;

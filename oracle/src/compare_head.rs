@@ -13,7 +13,7 @@ use crate::tally::Tally;
 use sifli::head::{MOST_TASKS, at};
 use sifli::query::{Id, Query, call};
 
-const RANDOM: Number = Number::new(10_000_000, 4_000_000);
+const RANDOM: Number = Number::new(10_000_000, 1_000_000);
 
 pub fn run(extent: Extent) -> Report {
     let quick = extent.quick;

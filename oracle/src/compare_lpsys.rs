@@ -15,7 +15,7 @@ use sifli::head::at;
 use sifli::query::{Call, Query};
 use sifli::random::Random;
 
-const RANDOM: Number = Number::new(1_000_000, 400_000);
+const RANDOM: Number = Number::new(1_000_000, 100_000);
 const DAMAGED: Number = Number::new(400_000, 60_000);
 
 /// Compares all groups of all calls.

@@ -12,7 +12,7 @@ use sifli::plan::{self, DEFAULT, LENGTH, at};
 use sifli::query::Query;
 use sifli::random::Random;
 
-const RANDOM: Number = Number::new(10_000_000, 3_500_000);
+const RANDOM: Number = Number::new(10_000_000, 1_000_000);
 
 pub fn run(extent: Extent) -> Report {
     let mut groups = Groups::of_original("plan_check", extent);
@@ -61,11 +61,12 @@ fn usb_settings(tally: &mut Tally, mut plan: Record, quick: bool) {
     }
 }
 
-/// With hdiv 64 or more HCLK is at most 6 MHz, the lowest limit, so the quick
-/// part has few of these.
+/// With hdiv 64 or more HCLK is at most 6 MHz, the lowest limit. The quick part
+/// has the small dividers, and some of the others on both sides of a limit.
 fn divider_settings(tally: &mut Tally, mut plan: Record, quick: bool) {
     for hdiv in 0..=255 {
-        if quick && !matches!(hdiv, 0..=65 | 127 | 128 | 254 | 255) {
+        if quick && !matches!(hdiv, 0..=17 | 24 | 25 | 32 | 33 | 48 | 51..=53 | 63..=65 | 128 | 255)
+        {
             continue;
         }
         plan[at::HDIV] = hdiv;
