@@ -7,7 +7,8 @@ use borrow.Author.Tests.{not-true, not-false}
 use Rattle.record.specs.Refusals.{firstOf}
 use Rattle.task.specs.Task.{hasId}
 use Rattle.head.specs.declared.Head.{Head}
-use Rattle.head.specs.Head.{headOf, booked}
+use Rattle.head.specs.Head.{booked}
+use Rattle.head_record.specs.Record.{headOf}
 use Rattle.call.proofs.Ending.{call-unadmitted, call-refused, call-encodable, call-bytes, call-head}
 use Rattle.call.proofs.Changed.{call-changed}
 use Rattle.tasks.specs.Tasks.{withoutTask}
