@@ -33,7 +33,7 @@ returns c =
     call-unadmitted (c .before .before .before .admit-head .ensures) (releaseTests (args .id) (headOf (args .buffer .now))) _ _ _ _ (c .before .if1 .taken) (c .refused .ensures)
 
 has-id-requires : tie.Need-has-id-requires
-has-id-requires c κs = (omega arith, call-encodable (c .before .before .before .before .admit-head .ensures) (c .before .before .if1 .left) .room)
+has-id-requires c κs = call-encodable (c .before .before .before .before .admit-head .ensures) (c .before .before .if1 .left) .room
 
 refused-requires-2 : tie.Need-refused-requires-2
 refused-requires-2 c κs = search needs
