@@ -1,8 +1,8 @@
--- `dvfs::lpsys::LpsysDvfsMode::from_frequency` meets its contract: the tests pick the case of `lpsysModeOf`. Assumes nothing.
+-- `dvfs_lpsys_modes::LpsysDvfsMode::from_frequency` meets its contract: the tests pick the case of `lpsysModeOf`. Assumes nothing.
 use borrow.Author.Tests.{le-leb, lt-leb}
-use Rattle.dvfs.specs.Lpsys.{lpsysModeOf}
-use Rattle.dvfs.proofs.lpsys.LpsysDvfsMode.from_frequency.Statement.{statement}
-use Rattle.dvfs.proofs.lpsys.LpsysDvfsMode.from_frequency.Tie as tie
+use Rattle.dvfs_lpsys_modes.specs.Lpsys.{lpsysModeOf}
+use Rattle.dvfs_lpsys_modes.proofs.LpsysDvfsMode.from_frequency.Statement.{statement}
+use Rattle.dvfs_lpsys_modes.proofs.LpsysDvfsMode.from_frequency.Tie as tie
 
 returns : tie.Need-returns
 unfolding lpsysModeOf

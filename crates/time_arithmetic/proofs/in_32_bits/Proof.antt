@@ -1,9 +1,9 @@
--- `time::in_32_bits` meets its contract: the test picks the case of `exact`. Assumes nothing.
+-- `time_arithmetic::in_32_bits` meets its contract: the test picks the case of `exact`. Assumes nothing.
 use borrow.Author.Tests.{lt-ltb, le-ltb}
-use Rattle.time.specs.Frequency.{exact}
+use Rattle.time_arithmetic.specs.Arithmetic.{exact}
 use borrow.Author.Needs.{needs}
-use Rattle.time.proofs.in_32_bits.Statement.{statement}
-use Rattle.time.proofs.in_32_bits.Tie as tie
+use Rattle.time_arithmetic.proofs.in_32_bits.Statement.{statement}
+use Rattle.time_arithmetic.proofs.in_32_bits.Tie as tie
 
 cast-t4 : tie.Need-cast-t4
 cast-t4 c = search needs

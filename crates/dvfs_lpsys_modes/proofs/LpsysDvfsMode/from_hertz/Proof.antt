@@ -1,7 +1,7 @@
--- `dvfs::lpsys::LpsysDvfsMode::from_hertz` meets its contract. Assumes nothing.
+-- `dvfs_lpsys_modes::LpsysDvfsMode::from_hertz` meets its contract. Assumes nothing.
 use borrow.Author.Needs.{needs}
-use Rattle.dvfs.proofs.lpsys.LpsysDvfsMode.from_hertz.Statement.{statement}
-use Rattle.dvfs.proofs.lpsys.LpsysDvfsMode.from_hertz.Tie as tie
+use Rattle.dvfs_lpsys_modes.proofs.LpsysDvfsMode.from_hertz.Statement.{statement}
+use Rattle.dvfs_lpsys_modes.proofs.LpsysDvfsMode.from_hertz.Tie as tie
 
 whole-mhz-requires : tie.Need-whole-mhz-requires
 whole-mhz-requires c κs = search needs

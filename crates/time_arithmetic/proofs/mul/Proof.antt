@@ -1,8 +1,8 @@
--- `time::Hertz::mul` meets its contract: the product of two numbers of 32 bits fits 64. Assumes nothing.
-use Rattle.time.proofs.Product.{product-fits}
+-- `time_arithmetic::mul` meets its contract: the product of two numbers of 32 bits fits 64. Assumes nothing.
+use Rattle.time_arithmetic.proofs.Product.{product-fits}
 use borrow.Author.Needs.{needs}
-use Rattle.time.proofs.Hertz.mul.Statement.{statement}
-use Rattle.time.proofs.Hertz.mul.Tie as tie
+use Rattle.time_arithmetic.proofs.mul.Statement.{statement}
+use Rattle.time_arithmetic.proofs.mul.Tie as tie
 
 cast-in-32-bits : tie.Need-cast-in-32-bits
 cast-in-32-bits c = search needs

@@ -1,8 +1,8 @@
--- `dvfs::lpsys::LpsysDvfsMode::get_config` meets its contract: the table at the mode's number. Assumes nothing.
-use Rattle.dvfs.proofs.Tables.{lpsys-row-at}
+-- `dvfs_lpsys_modes::LpsysDvfsMode::get_config` meets its contract: the table at the mode's number. Assumes nothing.
+use Rattle.dvfs_lpsys_modes.proofs.Tables.{lpsys-row-at}
 use borrow.Author.Needs.{needs}
-use Rattle.dvfs.proofs.lpsys.LpsysDvfsMode.get_config.Statement.{statement}
-use Rattle.dvfs.proofs.lpsys.LpsysDvfsMode.get_config.Tie as tie
+use Rattle.dvfs_lpsys_modes.proofs.LpsysDvfsMode.get_config.Statement.{statement}
+use Rattle.dvfs_lpsys_modes.proofs.LpsysDvfsMode.get_config.Tie as tie
 
 number-requires : tie.Need-number-requires
 number-requires c κs = search needs

@@ -2,11 +2,11 @@
 use Prim.Native.Nat.{ℕ}
 use mathlib.Core.Bool.{cond}
 use lib.Dec.{leb}
-use Rattle.dvfs.specs.declared.lpsys.LpsysDvfsConfig.{LpsysDvfsConfig}
-use Rattle.dvfs.specs.declared.lpsys.LpsysDvfsMode.{LpsysDvfsMode}
-use Rattle.dvfs.specs.declared.lpsys.LpsysDvfsMode.the-variants.{D, S}
-use Rattle.dvfs.specs.declared.lpsys.LpsysModeFound.{LpsysModeFound}
-use Rattle.dvfs.specs.declared.lpsys.LpsysModeFound.the-variants.{Mode, OutOfRange}
+use Rattle.dvfs_lpsys_modes.specs.declared.LpsysDvfsConfig.{LpsysDvfsConfig}
+use Rattle.dvfs_lpsys_modes.specs.declared.LpsysDvfsMode.{LpsysDvfsMode}
+use Rattle.dvfs_lpsys_modes.specs.declared.LpsysDvfsMode.the-variants.{D, S}
+use Rattle.dvfs_lpsys_modes.specs.declared.LpsysModeFound.{LpsysModeFound}
+use Rattle.dvfs_lpsys_modes.specs.declared.LpsysModeFound.the-variants.{Mode, OutOfRange}
 
 -- `LpsysDvfsMode::from_frequency`, on truncated MHz
 unfoldable pub lpsysModeOf : ℕ → LpsysModeFound
@@ -20,8 +20,3 @@ lpsysNumberOf S = 1
 abbrev pub lpsysRowOf : LpsysDvfsMode → LpsysDvfsConfig
 lpsysRowOf D = record { ldo = 0x6; ulpmcr = 0x0162 }
 lpsysRowOf S = record { ldo = 0x8; ulpmcr = 0x1162 }
-
--- `get_frequency_limit` of LPSYS, in Hz
-abbrev pub lpsysFrequencyLimit : LpsysDvfsMode → ℕ
-lpsysFrequencyLimit D = 24000000
-lpsysFrequencyLimit S = 48000000

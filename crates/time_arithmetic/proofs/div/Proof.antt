@@ -1,9 +1,9 @@
--- `time::Hertz::div` meets its contract: the test on the divisor picks the case of `quotient`. Assumes nothing.
+-- `time_arithmetic::div` meets its contract: the test on the divisor picks the case of `quotient`. Assumes nothing.
 use borrow.Author.Tests.{eq-eqb, ne-eqb}
-use Rattle.time.specs.Frequency.{quotient}
+use Rattle.time_arithmetic.specs.Arithmetic.{quotient}
 use borrow.Author.Needs.{needs}
-use Rattle.time.proofs.Hertz.div.Statement.{statement}
-use Rattle.time.proofs.Hertz.div.Tie as tie
+use Rattle.time_arithmetic.proofs.div.Statement.{statement}
+use Rattle.time_arithmetic.proofs.div.Tie as tie
 
 returns : tie.Need-returns
 unfolding quotient

@@ -1,7 +1,7 @@
-// LPSYS: the supply of the low-power system.
+// pmu/dvfs.rs: the supply modes of LPSYS, the low-power system, their limits and their table.
 ghost use mathlib.Core.Path.{_≡_};
 ghost use Prim.Native.Nat.{_<_};
-ghost use Rattle.dvfs.specs.Lpsys.{lpsysModeOf, lpsysNumberOf, lpsysRowOf, lpsysFrequencyLimit};
+ghost use Rattle.dvfs_lpsys_modes.specs.Lpsys.{lpsysModeOf, lpsysNumberOf, lpsysRowOf};
 ghost use Rattle.time.specs.Frequency.{megahertz};
 ghost use lib.Dec.{eqb};
 ghost use lib.ListN.{getD};
@@ -83,14 +83,5 @@ impl LpsysDvfsMode {
     {
         let n = self.number();
         LPSYS_DVFS_CONFIG[n]
-    }
-
-    pub fn get_frequency_limit(self) -> Hertz
-        ensures { λ r. ⌜ r .0 ≡ lpsysFrequencyLimit self ⌝ }
-    {
-        match self {
-            LpsysDvfsMode::D => Hertz(LPSYS_DVFS_MODE_D_LIMIT * 1_000_000),
-            LpsysDvfsMode::S => Hertz(LPSYS_DVFS_MODE_S_LIMIT * 1_000_000),
-        }
     }
 }
