@@ -16,10 +16,11 @@ use Rattle.record.proofs.Refusals.{none-at, not-refused, not-refused-unless}
 use Rattle.task.specs.declared.Task.{Task}
 use Rattle.task.specs.Task.{taskOk, hasId, distinct, InBytes}
 use Rattle.head.specs.declared.Head.{Head}
-use Rattle.head.specs.Head.{bufferBytes, headRefusal, headOf, booked}
+use Rattle.head.specs.Head.{booked}
+use Rattle.head_record.specs.Record.{bufferBytes, headRefusal, headOf}
 use Rattle.head.specs.Encodable.{Encodable}
-use Rattle.head.proofs.Passed.{passed}
-use Rattle.head.proofs.Decoding.{decode-encodable}
+use Rattle.head_record.proofs.Passed.{passed}
+use Rattle.head_record.proofs.Decoding.{decode-encodable}
 use Rattle.clock_read.specs.Hpsys.{sysOf, hclkOf}
 use Rattle.load.specs.Load.{loadOf}
 use Rattle.tasks.specs.Tasks.{withTask}

@@ -9,7 +9,8 @@ use Rattle.record.specs.Refusals.{refuse}
 use Rattle.task.specs.declared.Task.{Task}
 use Rattle.task.specs.Task.{taskOk, hasId}
 use Rattle.head.specs.declared.Head.{Head}
-use Rattle.head.specs.Head.{headOf, booked}
+use Rattle.head.specs.Head.{booked}
+use Rattle.head_record.specs.Record.{headOf}
 use Rattle.clock_read.specs.Hpsys.{hclkOf}
 use Rattle.load.specs.Load.{loadOf}
 use Rattle.tasks.specs.Tasks.{withTask}

@@ -20,7 +20,7 @@ fn refusal(head: Head, task: Task) -> u8
     if !task::ok(task) {
         return 16;
     }
-    if task::has_id(tasks, 0, count, task.id) {
+    if task::has_id(tasks, count, task.id) {
         return 40;
     }
     if count == 16 {

@@ -3,7 +3,7 @@ use Prim.Native.Nat.{ℕ}
 use mathlib.Core.Bool.{not}
 use mathlib.Core.List.{List, [], _∷_, _++_}
 use Rattle.record.specs.Refusals.{refuse, firstOf}
-use Rattle.head.specs.Head.{headOf}
+use Rattle.head_record.specs.Record.{headOf}
 use Rattle.call.specs.Call.{Result, answersTests, performed}
 use Rattle.calibration.specs.Calibration.{calibrateHrc48}
 

@@ -17,11 +17,11 @@ use Rattle.journal.specs.Run.{Run, begin, going, halted, store, cycles, delay, 
 use Rattle.head.specs.declared.Head.{Head}
 use Rattle.lpsys_modes.specs.Modes.{dividerFor}
 use Rattle.lpsys_modes.proofs.Divider.{source-48}
-use Rattle.head.specs.Head.{lengthFits, headRefusal, headOf, frontOf, stateOf, recordOf, written}
+use Rattle.head_record.specs.Record.{lengthFits, headRefusal, headOf, frontOf, stateOf, recordOf, written}
 use Rattle.record.specs.Items.{items, joined}
 use Rattle.register.specs.Word.{wordIn, wordBytes}
 use Rattle.register.specs.Codes.{largest}
-use Rattle.register.specs.Registers.{registersIn}
+use Rattle.register_bytes.specs.Registers.{registersIn}
 use Rattle.task.specs.declared.Task.{Task}
 use Rattle.task.specs.Task.{noTask, taskOk, allOk, hasId, distinct}
 use Rattle.four_bytes.specs.Four.{fourIn, fourBytes}

@@ -23,10 +23,11 @@ use Rattle.verdict.proofs.Passed as verdicts
 use Rattle.task.specs.declared.Task.{Task}
 use Rattle.task.specs.Task.{InBytes}
 use Rattle.head.specs.declared.Head.{Head}
-use Rattle.head.specs.Head.{headRefusal, headOf, booked}
+use Rattle.head.specs.Head.{booked}
+use Rattle.head_record.specs.Record.{headRefusal, headOf}
 use Rattle.head.specs.Encodable.{Encodable}
-use Rattle.head.proofs.Passed.{passed}
-use Rattle.head.proofs.Decoding.{decode-encodable}
+use Rattle.head_record.proofs.Passed.{passed}
+use Rattle.head_record.proofs.Decoding.{decode-encodable}
 use Rattle.clock_read.specs.Hpsys.{hertz, sysOf, hclkOf}
 use Rattle.lpsys_read.specs.Lpsys.{lpsysSysOf, lpsysHclkOf}
 use Rattle.journal.specs.Run.{Run, Effect, begin}

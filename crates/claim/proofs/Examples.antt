@@ -17,19 +17,19 @@ use Rattle.plan_limits.specs.Limits.{usbNot60, dll1CoreTooSlow, hclkTooFast, pc
 use Rattle.verdict.specs.Verdict.{planRefusal, verdictOf, verdict}
 use Rattle.register.specs.Word.{wordIn, wordBytes}
 use Rattle.register.specs.Codes.{largest}
-use Rattle.register.specs.Registers.{registersIn}
+use Rattle.register_bytes.specs.Registers.{registersIn}
 use Rattle.task.specs.declared.Task.{Task}
 use Rattle.task.specs.Task.{noTask, taskOk, allOk, hasId, distinct}
 use Rattle.four_bytes.specs.Four.{fourIn, fourBytes}
 use Rattle.task_bytes.specs.Tasks.{taskIn, taskBytes, tasksIn, tasksFit, placesIn}
 use Rattle.load.specs.Load.{shareOf, loadOf}
 use Rattle.head.specs.declared.Head.{Head}
-use Rattle.head.specs.Head.{lengthFits, headRefusal, headOf, frontOf, stateOf, recordOf, written}
+use Rattle.head_record.specs.Record.{lengthFits, headRefusal, headOf, frontOf, stateOf, recordOf, written}
 use Rattle.clock_read.specs.Hpsys.{dllReading, sysOf, hclkOf}
 use Rattle.lpsys_read.specs.Lpsys.{lpsysSysOf, lpsysHclkOf}
 use Rattle.journal.specs.Run.{going, store, delay, poll, wait}
 use Rattle.dvfs.specs.Hpsys.{modeOf}
-use Rattle.dvfs.specs.Lpsys.{lpsysModeOf}
+use Rattle.dvfs_lpsys_modes.specs.Lpsys.{lpsysModeOf}
 use Rattle.dvfs_lpsys.specs.LpsysSwitch.{lpsysD2sFirst, lpsysS2dFirst, lpsysS2dSecond}
 use Rattle.hpsys_volts.specs.HpsysVolts.{vrefOf, sxModeVolt, timing}
 use Rattle.hpsys_switch.specs.HpsysSwitch.{d2sFirst, s2dFirst, s2dSecond}

@@ -10,11 +10,12 @@ use lib.Seq.{take-nil, take-at}
 use borrow.Author.Tests.{eq-eqb, ne-eqb}
 use Rattle.task.specs.declared.Task.{Task}
 use Rattle.head.specs.declared.Head.{Head}
-use Rattle.head.specs.Head.{bufferBytes, headRefusal, headOf, booked, written}
+use Rattle.head.specs.Head.{booked}
+use Rattle.head_record.specs.Record.{bufferBytes, headRefusal, headOf, written}
 use Rattle.head.specs.Encodable.{Encodable}
-use Rattle.head.proofs.Passed.{passed}
-use Rattle.head.proofs.Decoding.{decode-encodable}
-use Rattle.head.proofs.Encoding.{decode-encode}
+use Rattle.head_record.proofs.Passed.{passed}
+use Rattle.head_record.proofs.Decoding.{decode-encodable}
+use Rattle.head_record.proofs.Encoding.{decode-encode}
 use Rattle.journal.specs.Run.{Run, Effect, begin, replayed}
 use Rattle.journal.proofs.Moments.{Moments, moments-now}
 use Rattle.fit.specs.Fit.{fits}

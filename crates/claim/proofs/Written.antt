@@ -16,7 +16,9 @@ use Rattle.four_bytes.specs.Four.{fourBytes}
 use Rattle.task_bytes.specs.Tasks.{taskBytes}
 use Rattle.task_bytes.proofs.Bytes.{bytes-drop}
 use Rattle.head.specs.declared.Head.{Head}
-use Rattle.head.specs.Head.{booked, bit, frontOf, stateOf, recordOf, written}
+use Rattle.register.specs.Word.{bit}
+use Rattle.head.specs.Head.{booked}
+use Rattle.head_record.specs.Record.{frontOf, stateOf, recordOf, written}
 use Rattle.head.specs.Encodable.{Encodable}
 use Rattle.tasks.proofs.Holding.{booked-length}
 

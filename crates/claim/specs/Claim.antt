@@ -13,7 +13,8 @@ use Rattle.register.specs.Word.{byteB, byteC}
 use Rattle.task.specs.declared.Task.{Task}
 use Rattle.task.specs.Task.{InBytes}
 use Rattle.head.specs.declared.Head.{Head}
-use Rattle.head.specs.Head.{headRefusal, headOf, booked}
+use Rattle.head.specs.Head.{booked}
+use Rattle.head_record.specs.Record.{headRefusal, headOf}
 use Rattle.clock_read.specs.Hpsys.{reg, hertz, hclkOf}
 use Rattle.journal.specs.Run.{replayed}
 use Rattle.load.specs.Load.{loadOf}

@@ -2,7 +2,8 @@
 use Prim.Native.Nat.{ℕ}
 use mathlib.Core.Path.{_≡_}
 use mathlib.Core.List.{List, [], _∷_}
-use Rattle.head.specs.Head.{headOf, booked}
+use Rattle.head.specs.Head.{booked}
+use Rattle.head_record.specs.Record.{headOf}
 use Rattle.claim.specs.Claim.{Call, perform, FitHead, Claim}
 use Rattle.claimed.specs.declared.Both.{Both}
 

@@ -11,7 +11,7 @@ use Rattle.plan.specs.Plan.{planOf}
 use Rattle.planned.specs.declared.Planned.{Planned}
 use Rattle.planned.specs.Planned.{Plans}
 use Rattle.head.specs.declared.Head.{Head}
-use Rattle.head.specs.Head.{headOf}
+use Rattle.head_record.specs.Record.{headOf}
 use Rattle.journal.specs.declared.Machine.{Machine}
 use Rattle.journal.specs.Run.{Effect, begin}
 use Rattle.journal.specs.Machine.{machineOf, Ran}

@@ -9,7 +9,7 @@ use Rattle.record.specs.Refusals.{firstOf}
 use Rattle.plan.specs.Plan.{planOf}
 use Rattle.verdict.specs.Verdict.{verdict, numberOf}
 use Rattle.head.specs.declared.Head.{Head}
-use Rattle.head.specs.Head.{headOf}
+use Rattle.head_record.specs.Record.{headOf}
 use Rattle.head_clocks.specs.Clocks.{clocksOf}
 use Rattle.journal.specs.Run.{Run, Effect, begin}
 use Rattle.call.specs.Call.{Result, answersTests, performed}

@@ -5,7 +5,7 @@ use mathlib.Core.List.{List}
 use lib.Dec.{eqb}
 use Rattle.clock.specs.declared.Dll.{Dll}
 use Rattle.register.specs.Word.{wordOf, byteB, byteC}
-use Rattle.head.specs.Head.{bit}
+use Rattle.register.specs.Word.{bit}
 use Rattle.clock_read.specs.Hpsys.{reg}
 use Rattle.journal.specs.Run.{Effect, idle, _▸_, store, delay, wait}
 

@@ -5,7 +5,7 @@ ghost use Prim.Native.Nat.{_≤_};
 ghost use lib.ListN.{length};
 ghost use Rattle.register.specs.Word.{wordOf, byteB, byteC};
 ghost use Rattle.register.specs.Codes.{fitsRegister};
-ghost use Rattle.head.specs.Head.{bit};
+ghost use Rattle.register.specs.Word.{bit};
 ghost use Rattle.head.specs.Encodable.{Encodable};
 ghost use Rattle.clock_read.specs.Hpsys.{reg};
 ghost use Rattle.journal.specs.Machine.{Ran, Ready, Kept};

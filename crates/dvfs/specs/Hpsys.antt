@@ -37,13 +37,6 @@ rowOf D1 = row (negsuc 2) 0x8 0xA 0x1161
 rowOf S0 = row (pos 0) 0xB 0xD 0x3043
 rowOf S1 = row (pos 2) 0xD 0xF 0x3043
 
--- `get_dll2_limit`
-abbrev pub dll2Limit : HpsysDvfsMode → ℕ
-dll2Limit D0 = 0
-dll2Limit D1 = 0
-dll2Limit S0 = 288000000
-dll2Limit S1 = 288000000
-
 -- "`get_frequency_limit` of HPSYS gives 24, 48, 144 or 240 inside `Hertz`"
 abbrev pub frequencyLimit : HpsysDvfsMode → ℕ
 frequencyLimit D0 = 24

@@ -1,2 +1,1 @@
 pub mod Hpsys
-pub mod Lpsys

@@ -1,7 +1,7 @@
 // HPSYS: the supply of the core.
 ghost use mathlib.Core.Path.{_≡_};
 ghost use Prim.Native.Nat.{_<_};
-ghost use Rattle.dvfs.specs.Hpsys.{modeOf, numberOf, rowOf, dll2Limit, frequencyLimit};
+ghost use Rattle.dvfs.specs.Hpsys.{modeOf, numberOf, rowOf};
 ghost use Rattle.time.specs.Frequency.{megahertz};
 ghost use lib.Dec.{eqb};
 ghost use lib.ListN.{getD};
@@ -65,8 +65,6 @@ const HPSYS_DVFS_CONFIG: [HpsysDvfsConfig; 4] = [
     },
 ];
 
-const HPSYS_DLL2_LIMIT: [u32; 4] = [0, 0, 288_000_000, 288_000_000];
-
 // Supply 0 is S, 1 is D.
 pub fn is_hpsys_dvfs_mode_s(h: Head) -> bool
     ensures { λ r. ⌜ r ≡ eqb (getD (h .regs) 12 0) 0 ⌝ }
@@ -117,24 +115,5 @@ impl HpsysDvfsMode {
     {
         let n = self.number();
         HPSYS_DVFS_CONFIG[n]
-    }
-
-    pub fn get_dll2_limit(self) -> Hertz
-        ensures { λ r. ⌜ r .0 ≡ dll2Limit self ⌝ }
-    {
-        let n = self.number();
-        Hertz(HPSYS_DLL2_LIMIT[n])
-    }
-
-    // Whole MHz inside `Hertz`, as the source has it.
-    pub fn get_frequency_limit(self) -> Hertz
-        ensures { λ r. ⌜ r .0 ≡ frequencyLimit self ⌝ }
-    {
-        match self {
-            HpsysDvfsMode::D0 => Hertz(HPSYS_DVFS_MODE_D0_LIMIT),
-            HpsysDvfsMode::D1 => Hertz(HPSYS_DVFS_MODE_D1_LIMIT),
-            HpsysDvfsMode::S0 => Hertz(HPSYS_DVFS_MODE_S0_LIMIT),
-            HpsysDvfsMode::S1 => Hertz(HPSYS_DVFS_MODE_S1_LIMIT),
-        }
     }
 }

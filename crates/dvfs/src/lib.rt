@@ -1,12 +1,11 @@
-// pmu/dvfs.rs: supply modes, their limits and their tables.
+// pmu/dvfs.rs: the supply modes of HPSYS, their limits and their table.
 mod hpsys;
-mod lpsys;
 
+pub use hpsys::HPSYS_DVFS_MODE_D0_LIMIT;
+pub use hpsys::HPSYS_DVFS_MODE_D1_LIMIT;
+pub use hpsys::HPSYS_DVFS_MODE_S0_LIMIT;
+pub use hpsys::HPSYS_DVFS_MODE_S1_LIMIT;
 pub use hpsys::HpsysDvfsConfig;
 pub use hpsys::HpsysDvfsMode;
 pub use hpsys::HpsysModeFound;
 pub use hpsys::is_hpsys_dvfs_mode_s;
-pub use lpsys::LpsysDvfsConfig;
-pub use lpsys::LpsysDvfsMode;
-pub use lpsys::LpsysModeFound;
-pub use lpsys::is_lpsys_dvfs_mode_s;

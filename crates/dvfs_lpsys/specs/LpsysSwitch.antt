@@ -1,8 +1,8 @@
 -- Supply transitions of LPSYS, pmu/dvfs.rs: "Closures passed to a transition become its first and second half." Assumes nothing.
 use Rattle.journal.specs.Run.{Effect, idle, _▸_, store, delay}
-use Rattle.dvfs.specs.declared.lpsys.LpsysDvfsMode.{LpsysDvfsMode}
-use Rattle.dvfs.specs.declared.lpsys.LpsysDvfsMode.the-variants.{D, S}
-use Rattle.dvfs.specs.Lpsys.{lpsysRowOf}
+use Rattle.dvfs_lpsys_modes.specs.declared.LpsysDvfsMode.{LpsysDvfsMode}
+use Rattle.dvfs_lpsys_modes.specs.declared.LpsysDvfsMode.the-variants.{D, S}
+use Rattle.dvfs_lpsys_modes.specs.Lpsys.{lpsysRowOf}
 
 -- `switch_lpsys_dvfs_d2s` before the clock: the ldo, supply S, 250 us
 unfoldable pub lpsysD2sFirst : Effect

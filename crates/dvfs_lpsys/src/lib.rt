@@ -2,7 +2,7 @@
 ghost use mathlib.Core.Path.{_≡_};
 ghost use Rattle.journal.specs.Machine.{Ran, Ready, Kept};
 ghost use Rattle.dvfs_lpsys.specs.LpsysSwitch.{lpsysD2sFirst, lpsysS2dFirst, lpsysS2dSecond, lpsysFirst, lpsysSecond};
-use dvfs::LpsysDvfsMode;
+use dvfs_lpsys_modes::LpsysDvfsMode;
 use journal::Machine;
 
 // The volts and the supply of S, before the clock rises.

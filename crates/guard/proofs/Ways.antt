@@ -10,7 +10,7 @@ use Rattle.verdict.specs.Verdict.{verdict, numberOf}
 use Rattle.planned.specs.declared.Planned.{Planned}
 use Rattle.planned.specs.Planned.{Plans}
 use Rattle.head.specs.declared.Head.{Head}
-use Rattle.head.specs.Head.{headOf}
+use Rattle.head_record.specs.Record.{headOf}
 use Rattle.journal.specs.declared.Machine.{Machine}
 use Rattle.journal.specs.Machine.{Ran}
 use Rattle.guard_halves.specs.Change.{change}

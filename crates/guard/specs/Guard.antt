@@ -4,7 +4,7 @@ use mathlib.Core.List.{List, _∷_, _++_}
 use Rattle.record.specs.Refusals.{firstOf}
 use Rattle.plan.specs.Plan.{planOf}
 use Rattle.verdict.specs.Verdict.{verdict, numberOf}
-use Rattle.head.specs.Head.{headOf}
+use Rattle.head_record.specs.Record.{headOf}
 use Rattle.call.specs.Call.{Result, answersTests, performed}
 use Rattle.guard_halves.specs.Change.{change}
 use Rattle.guard_tests.specs.Tests.{guardTests}

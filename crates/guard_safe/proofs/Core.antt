@@ -21,7 +21,7 @@ use Rattle.register.specs.Word.{wordOf, wordBytes, byteA, byteB, byteC}
 use Rattle.register.specs.Codes.{largest, fitsRegister}
 use Rattle.register.proofs.Fits.{word-fits}
 use Rattle.head.specs.declared.Head.{Head}
-use Rattle.head.specs.Head.{bit}
+use Rattle.register.specs.Word.{bit}
 use Rattle.head.specs.Encodable.{Encodable}
 use Rattle.clock_read.specs.Hpsys.{reg, hertz, readyReading, dllReading, dividedReading}
 use Rattle.clock_read.proofs.Codes.{byte-most}

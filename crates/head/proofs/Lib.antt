@@ -1,7 +1,1 @@
-pub mod Passed
-pub mod Parts
-pub mod Decoding
-pub mod Encoding
 pub mod Stores
-pub mod Past
-pub mod Answers

@@ -6,14 +6,12 @@ use mathlib.Core.Bool.{Bool, true, false}
 use native.Mathlib.Omega.{arith}
 use borrow.Author.Tests.{eqb-true, eqb-false}
 use lib.Dec.{eqb}
-use lib.ListN.{length, getD, set, length-set, getD-replicate}
+use lib.ListN.{length, getD, set, length-set}
 use lib.Seq.{getD-set-same, getD-set-other}
 use Rattle.head.specs.declared.Head.{Head}
-use Rattle.task.specs.Task.{allOk, distinct}
 use Rattle.register.specs.Codes.{fitsRegister}
-use Rattle.head.specs.Head.{blank, stored}
+use Rattle.head.specs.Head.{stored}
 use Rattle.head.specs.Encodable.{Encodable}
-use Rattle.register.proofs.Fits.{zero-fits}
 
 pub stored-same : (h : Head) (n v : ℕ) → n < length (h .regs) → getD (stored h n v .regs) n 0 ≡ v
 stored-same h n v l = getD-set-same (h .regs) n v 0 l
@@ -46,19 +44,3 @@ store-encodable h n v e fits =
         let same = eqb-true k n q in
         rw (same, getD-set-same (h .regs) n v 0 (omega (arith, e .words))) fits
     at k l false q = rw (getD-set-other (h .regs) n k v 0 (eqb-false k n q)) (e .codes k l)
-
-pub blank-encodable : Encodable blank
-unfolding blank allOk distinct
-blank-encodable =
-    record {
-      words = refl;
-      codes = λ n l. rw (getD-replicate {A = ℕ} 35 n 0 0 l) (zero-fits n l);
-      boot = omega arith;
-      wake = omega arith;
-      places = refl;
-      room = omega arith;
-      each = refl;
-      apart = refl;
-      inBytes = λ k l. absurd (omega arith);
-      rest = refl;
-    }

@@ -7,7 +7,7 @@ use Rattle.time.specs.Frequency.{maybe}
 use Rattle.clock.specs.declared.Clocks.{Clocks}
 use Rattle.head.specs.declared.Head.{Head}
 use Rattle.register.specs.Word.{byteB, byteC}
-use Rattle.head.specs.Head.{headRefusal, headOf}
+use Rattle.head_record.specs.Record.{headRefusal, headOf}
 use Rattle.clock_read.specs.Hpsys.{reg, dllReading, sysOf, hclkOf, pclkOf, pclk2Of}
 use Rattle.device_read.specs.Devices.{usbOf, wdtOf, flashOf}
 use Rattle.lpsys_read.specs.Lpsys.{lpsysSysOf, lpsysHclkOf, lpsysPclk1Of, lpsysPclk2Of, lpsysPeriOf, lpsysMacOf}

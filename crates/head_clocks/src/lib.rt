@@ -1,6 +1,6 @@
 // The frequencies of a head in their order, and the calls that read them from its bytes.
 ghost use mathlib.Core.Path.{_≡_};
-ghost use Rattle.head.specs.Head.{headRefusal, headOf};
+ghost use Rattle.head_record.specs.Record.{headRefusal, headOf};
 ghost use Rattle.head.specs.Encodable.{Encodable};
 ghost use Rattle.head_clocks.specs.Clocks.{clocksOf, lpsysOf, listed, unlessRefused};
 use clock::Clocks;
@@ -58,7 +58,7 @@ pub fn read_clocks(buffer: &[u8], clocks: &mut [u32; 15]) -> u8
     ensures { λ r. ⌜ r ≡ headRefusal (now (buffer .entry)) ⌝ }
     ensures { λ _. ⌜ now (clocks .exit) ≡ unlessRefused (now (buffer .entry)) (clocksOf (headOf (now (buffer .entry)))) (now (clocks .entry)) ⌝ }
 {
-    let decoded = head::decode(buffer);
+    let decoded = head_record::decode(buffer);
     if decoded.refusal != 0 {
         return decoded.refusal;
     }
@@ -86,7 +86,7 @@ pub fn read_lpsys(buffer: &[u8], lpsys: &mut [u32; 6]) -> u8
     ensures { λ r. ⌜ r ≡ headRefusal (now (buffer .entry)) ⌝ }
     ensures { λ _. ⌜ now (lpsys .exit) ≡ unlessRefused (now (buffer .entry)) (lpsysOf (headOf (now (buffer .entry)))) (now (lpsys .entry)) ⌝ }
 {
-    let decoded = head::decode(buffer);
+    let decoded = head_record::decode(buffer);
     if decoded.refusal != 0 {
         return decoded.refusal;
     }

@@ -3,7 +3,8 @@ ghost use mathlib.Core.Path.{_≡_};
 ghost use Prim.Native.Nat.{_≤_};
 ghost use lib.ListN.{length};
 ghost use Rattle.record.specs.Items.{laid};
-ghost use Rattle.head.specs.Head.{bufferBytes, bit, frontOf, stateOf, written};
+ghost use Rattle.register.specs.Word.{bit};
+ghost use Rattle.head_record.specs.Record.{bufferBytes, frontOf, stateOf, written};
 use head::Head;
 
 // The length and the version.
@@ -45,7 +46,7 @@ pub fn encode(head: Head, buffer: &mut [u8])
     let regs = head.regs;
     let tasks = head.tasks;
     write_front(count, buffer);
-    register::write(regs, buffer);
+    register_bytes::write(regs, buffer);
     write_state(head, buffer);
     task_bytes::write(tasks, count, buffer);
 }

@@ -4,7 +4,7 @@ use mathlib.Core.Bool.{cond}
 use mathlib.Core.List.{List}
 use lib.Dec.{eqb}
 use Rattle.time.specs.Frequency.{maybe}
-use Rattle.head.specs.Head.{headRefusal, headOf}
+use Rattle.head_record.specs.Record.{headRefusal, headOf}
 use Rattle.lpsys_read.specs.Lpsys.{lpsysHclkOf}
 
 -- "LPSYS HCLK in Hz", 0 where none reads or the head is refused

@@ -7,7 +7,7 @@ use Rattle.time.specs.declared.Reading.{Reading}
 use Rattle.time.specs.declared.Reading.the-variants.{At, Unreadable}
 use Rattle.time.specs.Frequency.{hzOr}
 use Rattle.record.specs.Refusals.{refuse}
-use Rattle.head.specs.Head.{headOf}
+use Rattle.head_record.specs.Record.{headOf}
 use Rattle.lpsys_read.specs.Lpsys.{lpsysHclkOf}
 use Rattle.call.specs.Call.{Result, journalCall}
 use Rattle.lpsys_request.specs.Request.{request, slowDown}

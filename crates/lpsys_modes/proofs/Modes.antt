@@ -2,8 +2,8 @@
 use Prim.Native.Nat.{ℕ, _≤_, _<_}
 use mathlib.Core.Path.{_≡_}
 use borrow.Author.Tests.{le-leb, lt-leb}
-use Rattle.dvfs.specs.declared.lpsys.LpsysDvfsMode.the-variants.{D, S}
-use Rattle.dvfs.specs.Lpsys.{lpsysModeOf}
+use Rattle.dvfs_lpsys_modes.specs.declared.LpsysDvfsMode.the-variants.{D, S}
+use Rattle.dvfs_lpsys_modes.specs.Lpsys.{lpsysModeOf}
 use Rattle.lpsys_modes.specs.Modes.{requestMode}
 
 pub request-d : (f : ℕ) → f ≤ 24 → requestMode f ≡ D

@@ -5,11 +5,11 @@ use lib.Dec.{leb}
 use Rattle.time.specs.Frequency.{megahertz, hzOr}
 use Rattle.head.specs.declared.Head.{Head}
 use Rattle.lpsys_read.specs.Lpsys.{lpsysSysOf, lpsysHclkOf}
-use Rattle.dvfs.specs.declared.lpsys.LpsysDvfsMode.{LpsysDvfsMode}
-use Rattle.dvfs.specs.declared.lpsys.LpsysDvfsMode.the-variants.{D, S}
-use Rattle.dvfs.specs.declared.lpsys.LpsysModeFound.{LpsysModeFound}
-use Rattle.dvfs.specs.declared.lpsys.LpsysModeFound.the-variants.{Mode, OutOfRange}
-use Rattle.dvfs.specs.Lpsys.{lpsysModeOf}
+use Rattle.dvfs_lpsys_modes.specs.declared.LpsysDvfsMode.{LpsysDvfsMode}
+use Rattle.dvfs_lpsys_modes.specs.declared.LpsysDvfsMode.the-variants.{D, S}
+use Rattle.dvfs_lpsys_modes.specs.declared.LpsysModeFound.{LpsysModeFound}
+use Rattle.dvfs_lpsys_modes.specs.declared.LpsysModeFound.the-variants.{Mode, OutOfRange}
+use Rattle.dvfs_lpsys_modes.specs.Lpsys.{lpsysModeOf}
 
 -- `unwrap_or`: the mode that is found, or `m`
 abbrev pub modeOr : LpsysDvfsMode → LpsysModeFound → LpsysDvfsMode

@@ -2,8 +2,8 @@
 ghost use mathlib.Core.Path.{_≡_};
 ghost use Prim.Native.Nat.{_≤_};
 ghost use Rattle.lpsys_modes.specs.Modes.{modeOr, dividerFor, presentMode, requestMode};
-use dvfs::LpsysDvfsMode;
-use dvfs::LpsysModeFound;
+use dvfs_lpsys_modes::LpsysDvfsMode;
+use dvfs_lpsys_modes::LpsysModeFound;
 use head::Head;
 use time::Hertz;
 use time::Megahertz;

@@ -21,9 +21,9 @@ use Rattle.clock_read.specs.Hpsys.{reg, hertz, hclkOf}
 use Rattle.lpsys_read.specs.Lpsys.{lpsysSysOf, lpsysHclkOf}
 use Rattle.journal.specs.Run.{Run, begin, going, store, delayed, delay}
 use Rattle.journal.proofs.Moments.{Moments, moments-begin, moments-now, moments-store, moments-delay}
-use Rattle.dvfs.specs.declared.lpsys.LpsysDvfsMode.{LpsysDvfsMode}
-use Rattle.dvfs.specs.declared.lpsys.LpsysDvfsMode.the-variants.{D, S}
-use Rattle.dvfs.specs.Lpsys.{lpsysModeOf}
+use Rattle.dvfs_lpsys_modes.specs.declared.LpsysDvfsMode.{LpsysDvfsMode}
+use Rattle.dvfs_lpsys_modes.specs.declared.LpsysDvfsMode.the-variants.{D, S}
+use Rattle.dvfs_lpsys_modes.specs.Lpsys.{lpsysModeOf}
 use Rattle.lpsys_modes.specs.Modes.{dividerFor, presentMode}
 use Rattle.lpsys_modes.proofs.Divider.{divider-slow, divider-small}
 use Rattle.lpsys_modes.proofs.Modes.{request-d, request-s}

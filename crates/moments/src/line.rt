@@ -70,7 +70,11 @@ fn put_hpsys(head: Head, line: &mut Line)
 
 fn put_lpsys(head: Head, line: &mut Line) {
     put_reading(lpsys_read::get_lpsys_hclk_freq(head), line, LPSYS_HCLK);
-    put_supply(dvfs::is_lpsys_dvfs_mode_s(head), line, LPSYS_SUPPLY);
+    put_supply(
+        dvfs_lpsys_modes::is_lpsys_dvfs_mode_s(head),
+        line,
+        LPSYS_SUPPLY,
+    );
 }
 
 fn put_load(head: Head, line: &mut Line) -> usize

@@ -10,10 +10,11 @@ use Rattle.record.proofs.Refusals.{none-at, not-refused-unless}
 use Rattle.task.specs.declared.Task.{Task}
 use Rattle.task.specs.Task.{hasId, distinct}
 use Rattle.head.specs.declared.Head.{Head}
-use Rattle.head.specs.Head.{headRefusal, headOf, booked}
+use Rattle.head.specs.Head.{booked}
+use Rattle.head_record.specs.Record.{headRefusal, headOf}
 use Rattle.head.specs.Encodable.{Encodable}
-use Rattle.head.proofs.Passed.{passed}
-use Rattle.head.proofs.Decoding.{decode-encodable}
+use Rattle.head_record.proofs.Passed.{passed}
+use Rattle.head_record.proofs.Decoding.{decode-encodable}
 use Rattle.tasks.specs.Tasks.{without, withoutTask}
 use Rattle.tasks.proofs.Holding.{booked-holding}
 use Rattle.tasks.proofs.Kept.{gone, less-encodable}

@@ -5,7 +5,8 @@ use mathlib.Core.List.{List, [], _∷_}
 use Rattle.record.specs.Refusals.{refuse}
 use Rattle.task.specs.Task.{hasId}
 use Rattle.head.specs.declared.Head.{Head}
-use Rattle.head.specs.Head.{headOf, booked}
+use Rattle.head.specs.Head.{booked}
+use Rattle.head_record.specs.Record.{headOf}
 use Rattle.tasks.specs.Tasks.{withoutTask}
 use Rattle.call.specs.Call.{Result, headCall}
 

@@ -5,7 +5,7 @@ use mathlib.Core.List.{List, _++_}
 use lib.ListN.{replicate}
 use Rattle.verdict.specs.Verdict.{verdict, numberOf}
 use Rattle.load_check.specs.LoadCheck.{loadCheck}
-use Rattle.head.specs.Head.{headRefusal, headOf}
+use Rattle.head_record.specs.Record.{headRefusal, headOf}
 use Rattle.head_clocks.specs.Clocks.{clocksOf, lpsysOf, unlessRefused}
 use Rattle.text.specs.Decimal.{numberField}
 use Rattle.text.specs.Hex.{byteField, wordField}

@@ -15,8 +15,8 @@ use Rattle.head.specs.Encodable.{Encodable}
 use Rattle.clock_read.specs.Hpsys.{reg}
 use Rattle.journal.specs.Run.{Run, begin, store, delay, _▸_}
 use Rattle.journal.proofs.Moments.{Moments, moments-begin, moments-now, moments-store, moments-delay}
-use Rattle.dvfs.specs.declared.lpsys.LpsysDvfsMode.{LpsysDvfsMode}
-use Rattle.dvfs.specs.declared.lpsys.LpsysDvfsMode.the-variants.{D, S}
+use Rattle.dvfs_lpsys_modes.specs.declared.LpsysDvfsMode.{LpsysDvfsMode}
+use Rattle.dvfs_lpsys_modes.specs.declared.LpsysDvfsMode.the-variants.{D, S}
 use Rattle.dvfs_lpsys.specs.LpsysSwitch.{lpsysD2sFirst, lpsysS2dFirst, lpsysS2dSecond, lpsysFirst, lpsysSecond}
 use Rattle.lpsys_modes.specs.Modes.{dividerFor, presentMode, requestMode}
 use Rattle.lpsys_modes.proofs.Divider.{divider-small}

@@ -5,7 +5,7 @@ mod lpsys;
 mod tasks;
 
 ghost use mathlib.Core.Path.{_≡_};
-ghost use Rattle.head.specs.Head.{headRefusal, headOf};
+ghost use Rattle.head_record.specs.Record.{headRefusal, headOf};
 ghost use Rattle.head_clocks.specs.Clocks.{clocksOf, lpsysOf, unlessRefused};
 ghost use Rattle.verdict.specs.Verdict.{verdict, numberOf};
 ghost use Rattle.answer_word.specs.Word.{packed};

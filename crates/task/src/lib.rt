@@ -1,7 +1,7 @@
 // A task, and the rules of tasks.
 ghost use mathlib.Core.Path.{_≡_};
 ghost use Prim.Native.Nat.{_≤_};
-ghost use lib.ListN.{take, drop};
+ghost use lib.ListN.{take};
 ghost use Rattle.task.specs.Task.{taskOk, hasId};
 
 pub struct Task {
@@ -26,13 +26,13 @@ pub fn ok(task: Task) -> bool
     task.period <= 10000000
 }
 
-// Whether one of the tasks from `from` on, up to `count`, has the id.
-pub fn has_id(tasks: [Task; 16], from: usize, count: u8, id: u8) -> bool
-    requires { ⌜ (from ≤ count) × (count ≤ 16) ⌝ }
-    ensures { λ r. ⌜ r ≡ hasId id (drop from (take count tasks)) ⌝ }
+// Whether one of the first `count` tasks has the id.
+pub fn has_id(tasks: [Task; 16], count: u8, id: u8) -> bool
+    requires { ⌜ count ≤ 16 ⌝ }
+    ensures { λ r. ⌜ r ≡ hasId id (take count tasks) ⌝ }
 {
     let end = count as usize;
-    let mut i = from;
+    let mut i = 0;
     while i < end {
         let task = tasks[i];
         if task.id == id {

@@ -2,7 +2,7 @@
 ghost use mathlib.Core.Path.{_≡_};
 ghost use Prim.Native.Nat.{_+_, _*_, _≤_};
 ghost use lib.ListN.{length, take, drop};
-ghost use Rattle.register.specs.Registers.{bufferBytes};
+ghost use Rattle.register_bytes.specs.Registers.{bufferBytes};
 ghost use Rattle.record.specs.Items.{items, joined, laid};
 ghost use Rattle.task_bytes.specs.Tasks.{taskIn, taskBytes, firstTask, countIn, placed, placesIn};
 use task::Task;

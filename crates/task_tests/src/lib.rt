@@ -3,7 +3,7 @@
 ghost use mathlib.Core.Path.{_≡_};
 ghost use Prim.Native.Nat.{_*_, _≤_};
 ghost use lib.ListN.{length, drop};
-ghost use Rattle.register.specs.Registers.{bufferBytes};
+ghost use Rattle.register_bytes.specs.Registers.{bufferBytes};
 ghost use Rattle.record.specs.Items.{items};
 ghost use Rattle.task.specs.Task.{allOk, hasId, distinct};
 ghost use Rattle.task_bytes.specs.Tasks.{taskIn, countIn, tasksFit};

@@ -1,20 +1,10 @@
 -- Frequencies as time.rs has them, at every operand. Assumes nothing.
-use Prim.Native.Nat.{ℕ, _/_, _^_}
+use Prim.Native.Nat.{ℕ, _/_}
 use mathlib.Core.Bool.{cond}
-use lib.Dec.{eqb, ltb}
+use lib.Dec.{eqb}
 use Rattle.time.specs.declared.Hertz.{Hertz}
 use Rattle.time.specs.declared.Reading.{Reading}
 use Rattle.time.specs.declared.Reading.the-variants.{At, Unreadable}
-use Rattle.time.specs.declared.Computed.{Computed}
-use Rattle.time.specs.declared.Computed.the-variants.{Exact, Overflow, ByZero}
-
--- `n` Hz where 32 bits hold it: `khz`, `mhz`, `Mul` and `Add`, which overflow in the Rust elsewhere
-unfoldable pub exact : ℕ → Computed
-exact n = cond (ltb n 4294967296) (Exact (record { 0 = n })) Overflow
-
--- `Div`, rounded down
-unfoldable pub quotient : ℕ → ℕ → Computed
-quotient n d = cond (eqb d 0) ByZero (Exact (record { 0 = n / d }))
 
 -- truncated MHz: "the mode functions take truncated MHz, all else Hz"
 abbrev pub megahertz : ℕ → ℕ

@@ -1,7 +1,6 @@
 // time.rs: frequencies in hertz and in whole megahertz. The source is modified from embassy-stm32; see NOTICE.
 ghost use mathlib.Core.Path.{_≡_};
-ghost use Prim.Native.Nat.{_+_, _*_, _/_};
-ghost use Rattle.time.specs.Frequency.{exact, quotient, megahertz, maybe, found, hzOr};
+ghost use Rattle.time.specs.Frequency.{megahertz, maybe, found, hzOr};
 
 // A frequency in Hz.
 pub struct Hertz(pub u32);
@@ -18,66 +17,11 @@ pub enum Reading {
     Unreadable,
 }
 
-// What a sum, a product or a quotient comes to.
-pub enum Computed {
-    Exact(Hertz),
-    // The result does not fit 32 bits.
-    Overflow,
-    ByZero,
-}
-
-fn in_32_bits(hertz: u64) -> Computed
-    ensures { λ r. ⌜ r ≡ exact hertz ⌝ }
-{
-    if hertz < 4294967296 {
-        Computed::Exact(Hertz(hertz as u32))
-    } else {
-        Computed::Overflow
-    }
-}
-
 impl Hertz {
     pub fn hz(hertz: u32) -> Hertz
         ensures { λ r. ⌜ r .0 ≡ hertz ⌝ }
     {
         Hertz(hertz)
-    }
-
-    pub fn khz(kilohertz: u32) -> Computed
-        ensures { λ r. ⌜ r ≡ exact (kilohertz * 1000) ⌝ }
-    {
-        in_32_bits((kilohertz as u64) * 1000)
-    }
-
-    pub fn mhz(megahertz: u32) -> Computed
-        ensures { λ r. ⌜ r ≡ exact (megahertz * 1000000) ⌝ }
-    {
-        in_32_bits((megahertz as u64) * 1000000)
-    }
-
-    pub fn mul(self, rhs: u32) -> Computed
-        ensures { λ r. ⌜ r ≡ exact (self .0 * rhs) ⌝ }
-    {
-        let hertz = self.0;
-        in_32_bits((hertz as u64) * (rhs as u64))
-    }
-
-    pub fn div(self, rhs: u32) -> Computed
-        ensures { λ r. ⌜ r ≡ quotient (self .0) rhs ⌝ }
-    {
-        if rhs == 0 {
-            return Computed::ByZero;
-        }
-        let hertz = self.0;
-        Computed::Exact(Hertz(hertz / rhs))
-    }
-
-    pub fn add(self, rhs: Hertz) -> Computed
-        ensures { λ r. ⌜ r ≡ exact (self .0 + rhs .0) ⌝ }
-    {
-        let left = self.0;
-        let right = rhs.0;
-        in_32_bits((left as u64) + (right as u64))
     }
 
     // The one way from Hz to whole MHz.

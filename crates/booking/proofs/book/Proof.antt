@@ -6,7 +6,7 @@ use Rattle.record.specs.Refusals.{firstOf}
 use Rattle.task.specs.declared.Task.{Task}
 use Rattle.task.specs.Task.{InBytes}
 use Rattle.head.specs.declared.Head.{Head}
-use Rattle.head.specs.Head.{headOf}
+use Rattle.head_record.specs.Record.{headOf}
 use Rattle.call.proofs.Ending.{call-unadmitted, call-refused-by, call-encodable, call-bytes, call-head}
 use Rattle.call.proofs.Changed.{call-changed}
 use Rattle.tasks.specs.Tasks.{withTask}

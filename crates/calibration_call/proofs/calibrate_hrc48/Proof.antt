@@ -4,7 +4,7 @@ use mathlib.Core.Path.{_≡_, sym, ap, _∙_}
 use mathlib.Core.Bool.{true, false}
 use Rattle.head.specs.declared.Head.{Head}
 use Rattle.record.specs.Refusals.{firstOf}
-use Rattle.head.specs.Head.{headOf}
+use Rattle.head_record.specs.Record.{headOf}
 use Rattle.call.proofs.Admitting.{answers-room, started}
 use Rattle.call.proofs.Ending.{call-unadmitted, call-refused, call-ran, call-encodable, call-bytes, call-head}
 use Rattle.calibration_call.specs.Calibration.{calibrationTests, calibration}

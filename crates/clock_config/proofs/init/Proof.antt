@@ -8,7 +8,7 @@ use Rattle.head_clocks.specs.Clocks.{clocksOf}
 use Rattle.call.proofs.Admitting.{answers-room, started}
 use Rattle.call.proofs.Ending.{call-encodable, call-bytes}
 use lib.ListN.{replicate}
-use Rattle.head.specs.Head.{headOf}
+use Rattle.head_record.specs.Record.{headOf}
 use Rattle.journal.specs.Run.{begin}
 use Rattle.clock_init.specs.Init.{init, initWarning}
 use Rattle.clock_config.specs.Calls.{initCall, initClocks, headAfter}

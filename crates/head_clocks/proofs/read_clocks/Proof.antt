@@ -1,7 +1,7 @@
 -- `head_clocks::read_clocks` meets its contract: a head that is read is encodable, and a refused one leaves the list as it was. Assumes nothing.
 use mathlib.Core.Path.{sym, _∙_}
 use borrow.Author.Tests.{eq-eqb, ne-eqb}
-use Rattle.head.proofs.Answers.{not-refused, read-head, read-encodable}
+use Rattle.head_record.proofs.Answers.{not-refused, read-head, read-encodable}
 use borrow.Author.Needs.{needs}
 use Rattle.head_clocks.proofs.read_clocks.Statement.{statement}
 use Rattle.head_clocks.proofs.read_clocks.Tie as tie

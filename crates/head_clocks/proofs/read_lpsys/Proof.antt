@@ -1,7 +1,7 @@
 -- `head_clocks::read_lpsys` meets its contract: a refused head leaves the list as it was. Assumes nothing.
 use mathlib.Core.Path.{sym, _∙_}
 use borrow.Author.Tests.{eq-eqb, ne-eqb}
-use Rattle.head.proofs.Answers.{not-refused, read-head}
+use Rattle.head_record.proofs.Answers.{not-refused, read-head}
 use borrow.Author.Needs.{needs}
 use Rattle.head_clocks.proofs.read_lpsys.Statement.{statement}
 use Rattle.head_clocks.proofs.read_lpsys.Tie as tie

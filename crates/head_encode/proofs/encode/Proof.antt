@@ -1,6 +1,6 @@
 -- `head_encode::encode` meets its contract: the four parts of the record, written one after the other. Assumes nothing.
 use mathlib.Core.Path.{_∙_}
-use Rattle.head.proofs.Parts.{record-laid}
+use Rattle.head_record.proofs.Parts.{record-laid}
 use native.Mathlib.Omega.{arith}
 use borrow.Author.Needs.{needs}
 use Rattle.head_encode.proofs.encode.Statement.{statement}

@@ -1,6 +1,6 @@
 -- `head_encode::write_front` meets its contract: three stores in a row. Assumes nothing.
 use native.Mathlib.Omega.{arith}
-use Rattle.head.specs.Head.{frontOf}
+use Rattle.head_record.specs.Record.{frontOf}
 use Rattle.record.proofs.Laid.{laid-sets}
 use borrow.Author.Needs.{needs}
 use Rattle.head_encode.proofs.write_front.Statement.{statement}

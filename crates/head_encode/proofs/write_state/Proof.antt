@@ -1,7 +1,7 @@
 -- `head_encode::write_state` meets its contract: six stores in a row. Assumes nothing.
 use native.Mathlib.Omega.{arith}
 use lib.ListN.{length-set}
-use Rattle.head.specs.Head.{stateOf}
+use Rattle.head_record.specs.Record.{stateOf}
 use Rattle.record.proofs.Laid.{laid-sets}
 use borrow.Author.Needs.{needs}
 use Rattle.head_encode.proofs.write_state.Statement.{statement}

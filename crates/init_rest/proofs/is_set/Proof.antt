@@ -1,7 +1,7 @@
 -- `init_rest::is_set` meets its contract: the tests in their order. Assumes nothing.
 use mathlib.Core.Path.{refl}
 use borrow.Author.Tests.{eq-eqb, ne-eqb}
-use Rattle.head.specs.Head.{bit}
+use Rattle.register.specs.Word.{bit}
 use Rattle.init_rest.specs.Rest.{isSet}
 use borrow.Author.Needs.{needs}
 use Rattle.init_rest.proofs.is_set.Statement.{statement}

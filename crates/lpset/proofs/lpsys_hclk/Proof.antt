@@ -7,7 +7,7 @@ use lib.Dec.{eqb}
 use lib.ListN.{getD}
 use Rattle.time.specs.Frequency.{maybe}
 use Rattle.head.specs.declared.Head.{Head}
-use Rattle.head.specs.Head.{headRefusal, headOf}
+use Rattle.head_record.specs.Record.{headRefusal, headOf}
 use Rattle.lpsys_read.specs.Lpsys.{lpsysHclkOf}
 use Rattle.lpset.specs.Hclk.{hclkIn}
 use Rattle.head_clocks.specs.Clocks.{lpsysOf}

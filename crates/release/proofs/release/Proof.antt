@@ -7,7 +7,8 @@ use borrow.Author.Tests.{not-true, not-false}
 use Rattle.record.specs.Refusals.{firstOf}
 use Rattle.task.specs.Task.{hasId}
 use Rattle.head.specs.declared.Head.{Head}
-use Rattle.head.specs.Head.{headOf, booked}
+use Rattle.head.specs.Head.{booked}
+use Rattle.head_record.specs.Record.{headOf}
 use Rattle.call.proofs.Ending.{call-unadmitted, call-refused, call-encodable, call-bytes, call-head}
 use Rattle.call.proofs.Changed.{call-changed}
 use Rattle.tasks.specs.Tasks.{withoutTask}
@@ -32,7 +33,7 @@ returns c =
     call-unadmitted (c .before .before .before .admit-head .ensures) (releaseTests (args .id) (headOf (args .buffer .now))) _ _ _ _ (c .before .if1 .taken) (c .refused .ensures)
 
 has-id-requires : tie.Need-has-id-requires
-has-id-requires c κs = (omega arith, call-encodable (c .before .before .before .before .admit-head .ensures) (c .before .before .if1 .left) .room)
+has-id-requires c κs = call-encodable (c .before .before .before .before .admit-head .ensures) (c .before .before .if1 .left) .room
 
 refused-requires-2 : tie.Need-refused-requires-2
 refused-requires-2 c κs = search needs

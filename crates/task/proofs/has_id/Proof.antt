@@ -13,10 +13,10 @@ use Rattle.task.proofs.has_id.Statement.{statement}
 use Rattle.task.proofs.has_id.Tie as tie
 
 abbrev Inv-loop : tie.InvT-loop
-Inv-loop from count id tasks end i₀ i = (i ≤ end) × ((length tasks ≡ 16) × (hasId id (drop i (take end tasks)) ≡ hasId id (drop from (take end tasks))))
+Inv-loop count id tasks end i₀ i = (i ≤ end) × ((length tasks ≡ 16) × (hasId id (drop i (take end tasks)) ≡ hasId id (take end tasks)))
 
 abbrev μ-loop : tie.MeasureT-loop
-μ-loop from count id tasks end i₀ i = end - i
+μ-loop count id tasks end i₀ i = end - i
 
 loop-holds : tie.Need-loop-holds Inv-loop μ-loop
 loop-holds c = (omega arith, (search needs, refl))

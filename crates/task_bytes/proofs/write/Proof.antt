@@ -11,7 +11,7 @@ use Rattle.record.specs.Items.{joined, laid}
 use Rattle.record.proofs.Laid.{laid-none, laid-item}
 use Rattle.task_bytes.proofs.write.Statement.{statement}
 use Rattle.task_bytes.proofs.write.Tie as tie
-use Rattle.register.specs.Registers.{bufferBytes}
+use Rattle.register_bytes.specs.Registers.{bufferBytes}
 use Rattle.task_bytes.specs.Tasks.{taskBytes, firstTask}
 
 abbrev Inv-loop : tie.InvT-loop

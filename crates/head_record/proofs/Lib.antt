@@ -1,0 +1,7 @@
+pub mod Passed
+pub mod Parts
+pub mod Decoding
+pub mod Encoding
+pub mod Blank
+pub mod Past
+pub mod Answers
