@@ -27,7 +27,8 @@ use Rattle.tasks.specs.Tasks.{withTask}
 use Rattle.tasks.proofs.Holding.{booked-holding}
 use Rattle.tasks.proofs.Kept.{more-encodable}
 use Rattle.call.proofs.Changed.{head-passed, own-passed, left-head, refusal-first, refused-buffer}
-use Rattle.booking.specs.Booking.{carried, bookTests, book}
+use Rattle.booking_tests.specs.Tests.{carried, bookTests}
+use Rattle.booking.specs.Booking.{book}
 
 -- a clock that carries a load is not below it
 carried-reads : (r : Reading) (load : ℕ) → carried r load ≡ 0 → (f : Hertz) → r ≡ At f → load ≤ f .0

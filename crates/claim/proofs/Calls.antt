@@ -39,13 +39,14 @@ use Rattle.tasks.specs.Tasks.{holding, without, withTask, withoutTask}
 use Rattle.tasks.proofs.Holding.{booked-holding}
 use Rattle.tasks.proofs.Kept.{less-encodable}
 use Rattle.call.proofs.Changed.{done-buffer, refused-buffer, refusal-first, own-passed, left-head}
-use Rattle.booking.specs.Booking.{bookTests, book}
+use Rattle.booking_tests.specs.Tests.{bookTests}
+use Rattle.booking.specs.Booking.{book}
 use Rattle.booking.proofs.Laws.{passed-load, passed-encodable}
 use Rattle.release.specs.Release.{releaseTests, release}
 use Rattle.release.proofs.Laws.{passed-has}
 use Rattle.lpsys_request.specs.Request.{request}
 use Rattle.lpsys_frequency.specs.Calls.{outOfRange, requestTests, lpsysRequest}
-use Rattle.guard_halves.specs.Change.{change}
+use Rattle.guard_change.specs.Change.{change}
 use Rattle.guard_safe.specs.Moment.{Ready, stopFor}
 use Rattle.guard_safe.proofs.View.{begun}
 use Rattle.guard_safe.proofs.Change.{Changed, change-moments}

@@ -37,12 +37,14 @@ use Rattle.rail.specs.Rail.{met, higher, railLimit}
 use Rattle.fit.specs.Fit.{lit, fits}
 use Rattle.dll.specs.Dll.{hpbgOn, vddpswOn, dllOff, dllOn, relocked, setDll, configureDll}
 use Rattle.core_clock.specs.CoreClock.{dividers}
-use Rattle.guard_supply.specs.Supply.{modeAt, highest, peakOf, raise}
+use Rattle.guard_peak.specs.Peak.{modeAt, highest, peakOf}
+use Rattle.guard_supply.specs.Supply.{raise}
 use Rattle.guard_steps.specs.Steps.{leaveDll1, toHxt48, toPlanned, backTo}
-use Rattle.guard_halves.specs.Change.{change}
+use Rattle.guard_change.specs.Change.{change}
 use Rattle.guard.specs.Guard.{changeCall}
 use Rattle.lpsys_modes.specs.Modes.{dividerFor, presentMode, requestMode}
-use Rattle.lpsys_request.specs.Request.{setHdiv, request}
+use Rattle.lpsys_hdiv.specs.Hdiv.{setHdiv}
+use Rattle.lpsys_request.specs.Request.{request}
 use Rattle.lpsys_frequency.specs.Calls.{lpsysRequest}
 use Rattle.call.specs.Call.{performed}
 use Rattle.tasks.specs.Tasks.{holding, without}

@@ -13,7 +13,7 @@ use Rattle.head.specs.declared.Head.{Head}
 use Rattle.head_record.specs.Record.{headOf}
 use Rattle.journal.specs.declared.Machine.{Machine}
 use Rattle.journal.specs.Machine.{Ran}
-use Rattle.guard_halves.specs.Change.{change}
+use Rattle.guard_change.specs.Change.{change}
 use Rattle.call.specs.declared.Admitted.{Admitted}
 use Rattle.call.specs.Call.{answersTests, Admits}
 use Rattle.call.proofs.Ending.{call-head}

@@ -6,7 +6,7 @@ use Rattle.plan.specs.Plan.{planOf}
 use Rattle.verdict.specs.Verdict.{verdict, numberOf}
 use Rattle.head_record.specs.Record.{headOf}
 use Rattle.call.specs.Call.{Result, answersTests, performed}
-use Rattle.guard_halves.specs.Change.{change}
+use Rattle.guard_change.specs.Change.{change}
 use Rattle.guard_tests.specs.Tests.{guardTests}
 
 -- the plan's 1 to 14, then its own

@@ -6,7 +6,7 @@ ghost use lib.ListN.{length};
 ghost use Rattle.plan.specs.Plan.{legal};
 ghost use Rattle.plan_clocks.specs.Clocks.{hclkHz};
 ghost use Rattle.journal.specs.Machine.{Ran, Ready, Kept};
-ghost use Rattle.guard_halves.specs.Change.{change};
+ghost use Rattle.guard_change.specs.Change.{change};
 use journal::Machine;
 use plan::Plan;
 use time::Hertz;
@@ -23,7 +23,7 @@ pub fn change(m: Machine, journal: &mut [u32], answers: &[u16], p: Plan, target:
     let head = m.head;
     let selects = head.regs[5];
     let present = clock_read::get_hclk_freq(head).unwrap_or(Hertz(0));
-    let peak = guard_supply::peak(present, target);
-    let m = guard_halves::leave(m, journal, answers, p, peak);
-    guard_halves::arrive(m, journal, p, selects, target)
+    let peak = guard_peak::peak(present, target);
+    let m = guard_leave::leave(m, journal, answers, p, peak);
+    guard_arrive::arrive(m, journal, p, selects, target)
 }

@@ -16,9 +16,10 @@ use Rattle.journal.proofs.Moments.{Moments, moments-begin, moments-now}
 use Rattle.dvfs.specs.declared.hpsys.HpsysDvfsMode.{HpsysDvfsMode}
 use Rattle.rail.specs.Rail.{limitHz}
 use Rattle.core_clock.specs.CoreClock.{plannedDll1, dividers}
-use Rattle.guard_supply.specs.Supply.{modeAt, peakOf, raise}
+use Rattle.guard_peak.specs.Peak.{modeAt, peakOf}
+use Rattle.guard_supply.specs.Supply.{raise}
 use Rattle.guard_steps.specs.Steps.{leaveDll1, toHxt48, toPlanned, backTo}
-use Rattle.guard_halves.specs.Change.{steps, change}
+use Rattle.guard_change.specs.Change.{steps, change}
 use Rattle.guard_safe.specs.Moment.{headWith, SafeAt, Ready, stopFor, takenFor}
 use Rattle.guard_safe.proofs.Clean.{codes-of, present-clock, target-clock, peak-is}
 use Rattle.guard_safe.proofs.Rails.{rail-most}

@@ -33,7 +33,7 @@ use Rattle.dvfs.specs.declared.hpsys.HpsysDvfsMode.{HpsysDvfsMode}
 use Rattle.dvfs.specs.declared.hpsys.HpsysDvfsMode.the-variants.{D0, D1, S0, S1}
 use Rattle.dvfs.specs.Hpsys.{modeOf}
 use Rattle.rail.specs.Rail.{limitHz}
-use Rattle.guard_supply.specs.Supply.{modeAt, highest, peakOf}
+use Rattle.guard_peak.specs.Peak.{modeAt, highest, peakOf}
 
 pub apart : true ≡ false → ⊥
 apart e = let z : _≡_ {A = ℕ} 0 1 = cc in omega arith

@@ -31,7 +31,7 @@ use Rattle.dll.specs.Dll.{hpbgOn, vddpswOn, dllOff, dllOn, relocked, setDll, co
 use Rattle.dll.proofs.Fits.{dll-fits, dll-codes, hpbg-fits, vddpsw-fits}
 use Rattle.core_clock.proofs.Fits.{dividers-fit, select-fits, sys-fits}
 use Rattle.core_clock.specs.CoreClock.{plannedDll1, dividers}
-use Rattle.guard_supply.specs.Supply.{modeAt}
+use Rattle.guard_peak.specs.Peak.{modeAt}
 use Rattle.guard_steps.specs.Steps.{onDll1, away, moved, leaveDll1, toHxt48, toPlanned, backTo}
 use Rattle.rail.specs.Rail.{limitHz}
 use Rattle.guard_safe.specs.Moment.{Ready, oneReady, stopFor, takenFor}

@@ -1,33 +1,12 @@
--- The supply in the guarded change: the peak, and document 01's steps (1) and (8), each as an effect on a running call. Assumes nothing.
-use Prim.Native.Nat.{ℕ}
+-- The supply in the guarded change: document 01's steps (1) and (8), each as an effect on a running call. Assumes nothing.
 use mathlib.Core.Bool.{cond}
-use lib.Dec.{leb, ltb}
-use Rattle.time.specs.Frequency.{megahertz}
+use lib.Dec.{ltb}
 use Rattle.journal.specs.Run.{Effect, _▸_, idle, store, delay}
 use Rattle.dvfs.specs.declared.hpsys.HpsysDvfsMode.{HpsysDvfsMode}
 use Rattle.dvfs.specs.declared.hpsys.HpsysDvfsMode.the-variants.{D0, D1, S0, S1}
-use Rattle.dvfs.specs.declared.hpsys.HpsysModeFound.{HpsysModeFound}
-use Rattle.dvfs.specs.declared.hpsys.HpsysModeFound.the-variants.{Mode, OutOfRange}
-use Rattle.dvfs.specs.Hpsys.{modeOf, numberOf}
 use Rattle.hpsys_volts.specs.HpsysVolts.{sxModeVolt, timing}
 use Rattle.hpsys_switch.specs.HpsysSwitch.{d2sFirst, s2dFirst, s2dSecond}
 use Rattle.rail.specs.Rail.{limitHz, railLimit}
-
--- the mode of a frequency in Hz; the highest where it has none, which neither a clock within its rail limit nor an accepted plan's is
-abbrev pub modeOr : HpsysModeFound → HpsysDvfsMode
-modeOr (Mode m) = m
-modeOr OutOfRange = S1
-
-unfoldable pub modeAt : ℕ → HpsysDvfsMode
-modeAt hz = modeOr (modeOf (megahertz hz))
-
--- the higher of two modes
-unfoldable pub highest : HpsysDvfsMode → HpsysDvfsMode → HpsysDvfsMode
-highest m n = cond (leb (numberOf n) (numberOf m)) m n
-
--- "Peak is the highest mode among the present HCLK's, D1 and the target's."
-unfoldable pub peakOf : ℕ → ℕ → HpsysDvfsMode
-peakOf present target = highest (highest (modeAt present) D1) (modeAt target)
 
 -- "(1) if the rail limit is below peak's, store peak's buck, then ldo, in the registers of peak's supply; for an S peak also register 12;
 -- delay 250 us; for an S peak the timing"

@@ -1,43 +1,14 @@
-// The supply in the guarded change: the peak, the volts raised before it and settled after it.
+// The supply in the guarded change: the volts raised before the clock and settled after it.
 ghost use mathlib.Core.Path.{_≡_};
 ghost use Rattle.journal.specs.Machine.{Ran, Ready, Kept};
 ghost use Rattle.journal.specs.Run.{store, _▸_};
 ghost use Rattle.hpsys_volts.specs.HpsysVolts.{sxModeVolt, timing};
-ghost use Rattle.guard_supply.specs.Supply.{modeAt, highest, peakOf, raise, settle};
+ghost use Rattle.guard_supply.specs.Supply.{raise, settle};
 use dvfs::HpsysDvfsMode;
-use dvfs::HpsysModeFound;
 use journal::Machine;
-use time::Hertz;
 
 // The number of the first mode on supply S; those below it are on D.
 const FIRST_S: usize = 2;
-
-// The mode of a clock, the highest where it has none.
-pub fn mode_at(f: Hertz) -> HpsysDvfsMode
-    ensures { λ r. ⌜ r ≡ modeAt (f .0) ⌝ }
-{
-    let HpsysModeFound::Mode(mode) = HpsysDvfsMode::from_hertz(f) else {
-        return HpsysDvfsMode::S1;
-    };
-    mode
-}
-
-fn highest(m: HpsysDvfsMode, n: HpsysDvfsMode) -> HpsysDvfsMode
-    ensures { λ r. ⌜ r ≡ highest m n ⌝ }
-{
-    if n.number() <= m.number() {
-        return m;
-    }
-    n
-}
-
-// The highest mode among the present clock's, D1 and the target's.
-pub fn peak(present: Hertz, target: Hertz) -> HpsysDvfsMode
-    ensures { λ r. ⌜ r ≡ peakOf (present .0) (target .0) ⌝ }
-{
-    let high = highest(mode_at(present), HpsysDvfsMode::D1);
-    highest(high, mode_at(target))
-}
 
 // Step 1: the volts of the peak, where the rail limit is below it.
 pub fn raise(m: Machine, journal: &mut [u32], peak: HpsysDvfsMode) -> Machine

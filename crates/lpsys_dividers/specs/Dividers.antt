@@ -7,7 +7,7 @@ use Rattle.record.specs.Refusals.{refuse}
 use Rattle.register.specs.Word.{wordOf}
 use Rattle.journal.specs.Run.{store}
 use Rattle.call.specs.Call.{Result, journalCall}
-use Rattle.lpsys_request.specs.Request.{setHdiv}
+use Rattle.lpsys_hdiv.specs.Hdiv.{setHdiv}
 
 -- `set_lpsys_hdiv`
 unfoldable pub setLpsysHdiv : ℕ → List ℕ → List ℕ → Result

@@ -12,7 +12,7 @@ pub fn set_lpsys_hdiv(buffer: &mut [u8], hdiv: u8, journal: &mut [u32]) -> Answe
         return Answer::refused(admitted.refusal);
     }
     let head = admitted.head;
-    let m = lpsys_request::set_hdiv(call::start(head), journal, hdiv);
+    let m = lpsys_hdiv::set_hdiv(call::start(head), journal, hdiv);
     call::finish(m, 0, buffer)
 }
 

@@ -27,7 +27,8 @@ use Rattle.dvfs_lpsys_modes.specs.Lpsys.{lpsysModeOf}
 use Rattle.lpsys_modes.specs.Modes.{dividerFor, presentMode}
 use Rattle.lpsys_modes.proofs.Divider.{divider-slow, divider-small}
 use Rattle.lpsys_modes.proofs.Modes.{request-d, request-s}
-use Rattle.lpsys_request.specs.Request.{setHdiv, request}
+use Rattle.lpsys_hdiv.specs.Hdiv.{setHdiv}
+use Rattle.lpsys_request.specs.Request.{request}
 use Rattle.lpsys_request.specs.Safe.{lpsysHz, LpsysSafe}
 
 -- what is kept: the limit, and the number of registers

@@ -3,16 +3,11 @@ use Prim.Native.Nat.{ℕ}
 use mathlib.Core.Bool.{cond}
 use lib.Dec.{ltb}
 use Rattle.time.specs.Frequency.{hzOr}
-use Rattle.register.specs.Word.{wordOf, byteB, byteC}
-use Rattle.clock_read.specs.Hpsys.{reg}
 use Rattle.lpsys_read.specs.Lpsys.{lpsysHclkOf}
-use Rattle.journal.specs.Run.{Effect, _▸_, store}
+use Rattle.journal.specs.Run.{Effect, _▸_}
 use Rattle.dvfs_lpsys.specs.LpsysSwitch.{lpsysFirst, lpsysSecond}
 use Rattle.lpsys_modes.specs.Modes.{dividerFor, presentMode, requestMode}
-
--- `set_lpsys_hdiv`: hdiv1 a of register 26
-unfoldable pub setHdiv : ℕ → Effect
-setHdiv hdiv r = store 26 (wordOf hdiv (byteB (reg (r .head) 26)) (byteC (reg (r .head) 26))) r
+use Rattle.lpsys_hdiv.specs.Hdiv.{setHdiv}
 
 -- `config_lpsys_hclk_mhz`, "an LPSYS request": the transition's first half, the divider, its second half
 unfoldable pub request : ℕ → Effect

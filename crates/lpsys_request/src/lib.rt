@@ -2,21 +2,9 @@
 ghost use mathlib.Core.Path.{_≡_};
 ghost use Prim.Native.Nat.{_≤_};
 ghost use Rattle.journal.specs.Machine.{Ran, Ready, Kept};
-ghost use Rattle.lpsys_request.specs.Request.{setHdiv, request, slowDown};
+ghost use Rattle.lpsys_request.specs.Request.{request, slowDown};
 use journal::Machine;
 use time::Hertz;
-
-pub fn set_hdiv(m: Machine, journal: &mut [u32], hdiv: u8) -> Machine
-    requires { ⌜ Ready 1 m (now journal) ⌝ }
-    ensures { λ r. ⌜ Ran (setHdiv hdiv) m r (now (journal .entry)) (now (journal .exit)) ⌝ }
-    ensures { λ r. ⌜ Kept 1 m r ⌝ }
-    ensures { λ r. ⌜ r .taken ≡ m .taken ⌝ }
-{
-    let head = m.head;
-    let old = head.regs[26];
-    let word = head::word(hdiv as u32, head::b(old), head::c(old));
-    m.store(journal, 26, word)
-}
 
 pub fn request(m: Machine, journal: &mut [u32], mhz: u32) -> Machine
     requires { ⌜ Ready 6 m (now journal) ⌝ }
@@ -30,7 +18,7 @@ pub fn request(m: Machine, journal: &mut [u32], mhz: u32) -> Machine
     let target = lpsys_modes::request_mode(mhz);
     let hdiv = lpsys_modes::divider_for(mhz, head);
     let m = dvfs_lpsys::config_lpsys_dvfs_first(m, journal, current, target);
-    let m = set_hdiv(m, journal, hdiv);
+    let m = lpsys_hdiv::set_hdiv(m, journal, hdiv);
     dvfs_lpsys::config_lpsys_dvfs_second(m, journal, current, target)
 }
 

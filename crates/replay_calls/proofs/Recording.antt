@@ -7,7 +7,9 @@ use lib.ListN.{length, take, replicate}
 use Rattle.call.specs.declared.Answer.{Answer}
 use Rattle.call.specs.Call.{Result, Answers}
 use Rattle.answered.specs.Answer.{unused}
-use Rattle.call_text.specs.Left.{joined, givenText, leftText}
+use Rattle.line_numbers.specs.Joined.{joined}
+use Rattle.given_text.specs.Given.{givenText}
+use Rattle.left_text.specs.Left.{leftText}
 use Rattle.replay_config.proofs.Laws.{lent-most}
 use Rattle.replay_calls.specs.declared.Call.{Call}
 use Rattle.replay_calls.specs.declared.Call.the-variants.{Lpsys, Config, Tasks}

@@ -5,7 +5,9 @@ use mathlib.Core.List.{List, _++_}
 use lib.ListN.{take, replicate}
 use Rattle.call.specs.Call.{Result}
 use Rattle.answered.specs.Answer.{unused}
-use Rattle.call_text.specs.Left.{joined, givenText, resultText}
+use Rattle.line_numbers.specs.Joined.{joined}
+use Rattle.given_text.specs.Given.{givenText}
+use Rattle.left_text.specs.Left.{resultText}
 use Rattle.replay_lpsys.specs.Calls as lpsys
 use Rattle.replay_config.specs.Calls as config
 use Rattle.replay_tasks.specs.Calls as tasks

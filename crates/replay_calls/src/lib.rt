@@ -7,7 +7,7 @@ ghost use Prim.Native.Nat.{_≤_};
 ghost use mathlib.Core.Path.{_≡_};
 ghost use lib.ListN.{length};
 ghost use Rattle.call.specs.Call.{Answers};
-ghost use Rattle.call_text.specs.Left.{joined};
+ghost use Rattle.line_numbers.specs.Joined.{joined};
 ghost use Rattle.answered.specs.Answer.{AnswerWithin};
 ghost use Rattle.replay_calls.specs.Line.{lentClocks, resultOf, clocksAfter, lineOf, Recorded};
 use answered::Outcome;
@@ -66,11 +66,11 @@ fn run_line(
     ensures { λ r. ⌜ AnswerWithin r (length (now (text .entry))) ⌝ }
     ensures { λ r. ⌜ (r ≡ Outcome.Same → now (line .entry) ≡ lineOf call (now (name .entry)) (now (argument .entry)) (now (buffer .entry)) (now (answers .entry)) former) ⌝ }
 {
-    let given = call_text::put_given(name, argument, buffer, answers, former, shown, text);
+    let given = given_text::put_given(name, argument, buffer, answers, former, shown, text);
     let mut clocks = former;
     let mut journal = [answered::UNUSED; 128];
     let answer = run(call, argument, &mut clocks, buffer, &mut journal, words);
-    let end = call_text::put_left(answer, buffer, &journal, clocks, shown, text, given);
+    let end = left_text::put_left(answer, buffer, &journal, clocks, shown, text, given);
     answered::compare(line, &journal, answer.entries, text, given, end)
 }
 
@@ -91,7 +91,7 @@ pub fn call_line(call: Call, name: &[u8], line: &[u8], text: &mut [u8]) -> Outco
     let b = held.count;
     let n = lent.count;
     let mut words = [0u16; 1024];
-    let joined = call_text::join(&answers[..n], &mut words);
+    let joined = line_numbers::join(&answers[..n], &mut words);
     run_line(
         call,
         name,
@@ -99,7 +99,7 @@ pub fn call_line(call: Call, name: &[u8], line: &[u8], text: &mut [u8]) -> Outco
         &mut buffer[..b],
         &answers[..n],
         &words[..joined],
-        call_text::clocks_in(&former),
+        line_numbers::clocks_in(&former),
         lent_clocks(call),
         line,
         text,

@@ -20,8 +20,9 @@ use Rattle.dvfs_lpsys_modes.specs.declared.LpsysDvfsMode.the-variants.{D, S}
 use Rattle.dvfs_lpsys.specs.LpsysSwitch.{lpsysD2sFirst, lpsysS2dFirst, lpsysS2dSecond, lpsysFirst, lpsysSecond}
 use Rattle.lpsys_modes.specs.Modes.{dividerFor, presentMode, requestMode}
 use Rattle.lpsys_modes.proofs.Divider.{divider-small}
-use Rattle.lpsys_request.specs.Request.{setHdiv, request}
-use Rattle.lpsys_request.proofs.Fits.{hdiv-fits}
+use Rattle.lpsys_hdiv.specs.Hdiv.{setHdiv}
+use Rattle.lpsys_request.specs.Request.{request}
+use Rattle.lpsys_hdiv.proofs.Fits.{hdiv-fits}
 use Rattle.request_fit.proofs.Coded.{Codes, codes-now, codes-begin, codes-store, codes-delay}
 
 module _ (h : Head) where

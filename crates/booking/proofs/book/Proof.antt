@@ -10,7 +10,8 @@ use Rattle.head_record.specs.Record.{headOf}
 use Rattle.call.proofs.Ending.{call-unadmitted, call-refused-by, call-encodable, call-bytes, call-head}
 use Rattle.call.proofs.Changed.{call-changed}
 use Rattle.tasks.specs.Tasks.{withTask}
-use Rattle.booking.specs.Booking.{bookTests, book}
+use Rattle.booking_tests.specs.Tests.{bookTests}
+use Rattle.booking.specs.Booking.{book}
 use Rattle.booking.proofs.Laws.{passed-room, passed-encodable}
 use Rattle.booking.proofs.book.Statement.{statement}
 use Rattle.booking.proofs.book.Tie as tie

@@ -6,7 +6,7 @@ use Rattle.plan_clocks.specs.declared.Target.{Target}
 use Rattle.plan_clocks.specs.Clocks.{targetOf}
 use Rattle.call.proofs.Admitting.{answers-room, started}
 use Rattle.call.proofs.Ending.{call-unadmitted, call-refused-by, call-ran, call-encodable, call-bytes}
-use Rattle.guard_halves.specs.Change.{change}
+use Rattle.guard_change.specs.Change.{change}
 use Rattle.guard.specs.Guard.{changeTests, changeCall}
 use Rattle.guard.proofs.Ways.{tests-plan, tests-own, ran-planned}
 use borrow.Author.Needs.{needs}

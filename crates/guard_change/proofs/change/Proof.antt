@@ -6,8 +6,8 @@ use Rattle.time.specs.Frequency.{hzOr}
 use Rattle.plan_clocks.specs.Clocks.{hclkHz}
 use Rattle.clock_read.specs.Hpsys.{reg, hclkOf}
 use Rattle.journal.proofs.Steps.{then-quiet, of-head}
-use Rattle.guard_supply.specs.Supply.{peakOf}
-use Rattle.guard_halves.specs.Change.{steps, change}
+use Rattle.guard_peak.specs.Peak.{peakOf}
+use Rattle.guard_change.specs.Change.{steps, change}
 use borrow.Author.Needs.{needs}
 use Rattle.guard_change.proofs.change.Statement.{statement}
 use Rattle.guard_change.proofs.change.Tie as tie

@@ -6,7 +6,8 @@ use Rattle.journal.specs.Run.{Run, _▸_}
 use Rattle.journal.proofs.Reached.{ran-as, ran-then}
 use Rattle.dvfs_lpsys.specs.LpsysSwitch.{lpsysFirst, lpsysSecond}
 use Rattle.lpsys_modes.specs.Modes.{dividerFor, presentMode, requestMode}
-use Rattle.lpsys_request.specs.Request.{setHdiv, request}
+use Rattle.lpsys_hdiv.specs.Hdiv.{setHdiv}
+use Rattle.lpsys_request.specs.Request.{request}
 use borrow.Author.Needs.{needs}
 use Rattle.lpsys_request.proofs.request.Statement.{statement}
 use Rattle.lpsys_request.proofs.request.Tie as tie

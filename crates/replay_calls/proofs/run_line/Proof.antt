@@ -1,7 +1,7 @@
 -- `replay_calls::run_line` meets its contract: the text is that of the call, given and left. Assumes nothing.
 use Rattle.replay_calls.proofs.Recording.{shown-most, line-is}
 use Rattle.answered.proofs.Comparing.{same-line}
-use Rattle.call_text.specs.Left.{givenText}
+use Rattle.given_text.specs.Given.{givenText}
 use lib.ListN.{take}
 use native.Mathlib.Omega.{arith}
 use mathlib.Core.Path.{_∙_}

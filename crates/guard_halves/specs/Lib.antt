@@ -1,2 +1,0 @@
-pub mod Change
-pub mod Halves
