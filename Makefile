@@ -8,7 +8,7 @@ CC = cc
 CXX = g++
 CFLAGS = -O2
 STRICT = -Wall -Wextra -pedantic -Wconversion -Wsign-conversion -Werror
-RT = rt
+RT = tools/rt.sh
 # Cargo takes no part in make's own count of jobs.
 CARGO = MAKEFLAGS= cargo
 WITH_ORACLE = --release --quiet --offline --manifest-path oracle/Cargo.toml
@@ -55,7 +55,7 @@ help:
 lib: $(LIBRARY)
 
 # rt check proves several crates at a time, rt staticlib one after the other.
-$(LIBRARY): $(SOURCES)
+$(LIBRARY): $(SOURCES) | build/long-slices
 	test -d target/rlib/rikkovan.rlib || $(RT) check rikkovan
 	$(RT) staticlib rikkovan
 
@@ -63,7 +63,7 @@ build/daemon: examples/daemon.c include/rikkovan.h $(LIBRARY)
 	@mkdir -p build
 	$(CC) -std=c99 $(STRICT) $(CFLAGS) -Iinclude -o $@ examples/daemon.c $(LIBRARY)
 
-$(PROGRAMS): target/bin/%: $(SOURCES)
+$(PROGRAMS): target/bin/%: $(SOURCES) | build/long-slices
 	$(RT) check $*
 
 # Some of the files are refused on purpose, and the daemon's status is then 1.

@@ -46,33 +46,8 @@ every_crate_is_listed() {
     return "$unlisted"
 }
 
-# Whether /dev/shm, a folder in memory, has room, and programs may run from it.
-has_memory_folder() {
-    local probe room status=0
-    room=$(df --output=avail -m /dev/shm 2>/dev/null | tail -n 1)
-    [ "${room:-0}" -ge 4096 ] && probe=$(mktemp -p /dev/shm 2>/dev/null) || return
-    printf '#!/bin/sh\n' >"$probe"
-    chmod +x "$probe"
-    "$probe" 2>/dev/null || status=$?
-    rm -f "$probe"
-    return "$status"
-}
-
-# rt starts the next checks when all of those that it started have ended, so four to a processor keep it busy; each may take 2 GiB.
-jobs() {
-    local wanted=$((4 * $(nproc))) room
-    room=$(awk '/^MemAvailable:/ { print int($2 / 2097152) }' /proc/meminfo)
-    echo $((room < 1 ? 1 : room < wanted ? room : wanted))
-}
-
-# A check copies the libraries below its crate, some 100 MB, to a temporary folder; one in memory saves a second of each.
 rt_ci() {
-    export RT_JOBS=${RT_JOBS:-$(jobs)}
-    if [ -z "${TMPDIR:-}" ] && has_memory_folder; then
-        export TMPDIR=/dev/shm
-    fi
-    part build/long-slices
-    build/long-slices rt ci 2>&1 | tee "$log" || return
+    tools/rt.sh ci 2>&1 | tee "$log" || return
     tail -n 1 "$log" | grep -qxE '[0-9]+ passed, 0 failed'
 }
 
