@@ -159,6 +159,14 @@ fn lpsys_in_place(id: Id) -> Original {
     }
 }
 
+fn with_plan<'a>(id: Id, head: &'a Buffer, plan: &'a [u8], answers: &'a [u16]) -> Query<'a> {
+    Query {
+        plan,
+        answers,
+        ..Query::on(call(id), head)
+    }
+}
+
 /// A cold head has the core on HXT48, which is not ready, and nothing else set.
 fn config_rows() -> [Row; 6] {
     let ready = buffer(&plain(), 0);
@@ -168,29 +176,20 @@ fn config_rows() -> [Row; 6] {
     let mut slow = fast;
     put_register(&mut slow, 1, [0, 0, 1]);
     put_register(&mut slow, 12, [0, 0, 1]);
-    let row = |name, id, head: &Buffer, plan: &[u8], answers: &[u16], original| {
-        let query = Query {
-            plan,
-            answers,
-            ..Query::on(call(id), head)
-        };
-        of_original(name, query, original)
-    };
     let calibrating = |name, answers: Vec<u16>| {
-        row(name, Id::Calibrate, &ready, &[], &answers, |_, _| {
+        let query = with_plan(Id::Calibrate, &ready, &[], &answers);
+        of_original(name, query, |_, _| {
             call::calibrate_in_place().expect("a search that ends")
         })
     };
     let initial = |name, measured: Vec<u16>| {
         let answers = [&[1], &measured[..], &[1, 1]].concat();
-        row(name, Id::Init, &cold, &DEFAULT, &answers, |_, plan| {
-            call::init_in_place(plan)
-        })
+        let query = with_plan(Id::Init, &cold, &DEFAULT, &answers);
+        of_original(name, query, |_, plan| call::init_in_place(plan))
     };
     let changing = |name, head, plan| {
-        row(name, Id::Reconfigure, head, plan, &[1], |_, plan| {
-            call::reconfigure_in_place(plan)
-        })
+        let query = with_plan(Id::Reconfigure, head, plan, &[1]);
+        of_original(name, query, |_, plan| call::reconfigure_in_place(plan))
     };
     [
         calibrating("calibrate_hrc48, 1 measurement", search(1, 0, 0)),

@@ -145,6 +145,19 @@ pub fn of_call(seen: &Seen) -> Result<(), Broken> {
     Ok(())
 }
 
+/// One wait is recorded, that for DLL1, where the plan has it and the change is done.
+fn waits_once(seen: &Seen, waits: bool) -> Result<(), Broken> {
+    let waited: Vec<u32> = seen.entries.iter().copied().filter(is_wait).collect();
+    let wanted = match (waits, seen.answer) {
+        (true, 0) => vec![0x3103_0000 + seen.taken as u32],
+        _ => Vec::new(),
+    };
+    if waited != wanted {
+        return Err(format!("the waits are {waited:X?}"));
+    }
+    Ok(())
+}
+
 /// Of a guarded change: "Every change that no test refuses before its first store
 /// is answered done exactly when its plan has no DLL1 or one of the answers lent
 /// to it is ready; otherwise it is refused 36. [..] a change answered done leaves
@@ -175,14 +188,7 @@ pub fn of_change(seen: &Seen, plan: &[u8], answers: &[u16]) -> Result<(), Broken
     if seen.entries.is_empty() {
         return Err("nothing is stored".to_string());
     }
-    let waited: Vec<u32> = seen.entries.iter().copied().filter(is_wait).collect();
-    let wanted = match (waits, seen.answer) {
-        (true, 0) => vec![0x3103_0000 + taken as u32],
-        _ => Vec::new(),
-    };
-    if waited != wanted {
-        return Err(format!("the waits are {waited:X?}"));
-    }
+    waits_once(seen, waits)?;
     if seen.answer == 0 {
         let hclk = readings::hclk(seen.after);
         if hclk != Some(planned(plan)) {

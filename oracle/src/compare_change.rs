@@ -13,7 +13,7 @@ use crate::heads::{
     Buffer, DIVIDERS, buffer, damaged_or_any, dlls, journal, put_flags, put_register,
 };
 use crate::ours::ours;
-use crate::plans::{self, STAGES};
+use crate::plans::{self, Record, STAGES};
 use crate::tally::Tally;
 use crate::task_inputs::any_past;
 use sifli::call::MOST_ANSWERS;
@@ -230,18 +230,20 @@ fn every_answer(tally: &mut Tally, quick: bool) {
             all(tally, &answers);
         }
     }
-    let mut answers = vec![0; MOST_ANSWERS];
+    let none = [0; MOST_ANSWERS];
     for length in [255, 256, 257, MOST_ANSWERS - 1, MOST_ANSWERS] {
-        all(tally, &answers[..length]);
+        all(tally, &none[..length]);
     }
+    late_answers(tally, &heads, &plans[..2], quick);
+}
+
+/// The most answers, one of them ready.
+fn late_answers(tally: &mut Tally, heads: &[Buffer], plans: &[Record], quick: bool) {
+    let mut answers = vec![0; MOST_ANSWERS];
     for place in (0..MOST_ANSWERS).step_by(if quick { 97 } else { 1 }) {
         answers[place] = 0x0100;
-        on(
-            tally,
-            &heads[place % heads.len()],
-            &plans[place % 2],
-            &answers,
-        );
+        let plan = &plans[place % plans.len()];
+        on(tally, &heads[place % heads.len()], plan, &answers);
         answers[place] = 0;
     }
 }

@@ -49,6 +49,25 @@ fn plan_lengths(tally: &mut Tally) {
     }
 }
 
+/// A head with the faults 5 to 10: 37 by its rails, its flash or LPSYS, 38 by each flag, 39.
+fn with_faults(mut head: Head, has: impl Fn(u32) -> bool) -> Head {
+    if has(5) {
+        head.registers[14] = 12;
+    }
+    if has(6) {
+        head.registers[5] = 0x000200;
+    }
+    if has(7) {
+        head.registers[26] = 0x010000;
+    }
+    head.hrc48_ready = !has(8);
+    head.hxt48_ready = !has(9);
+    if has(10) {
+        head = with_load(head, 3, 240_000_001, false);
+    }
+    head
+}
+
 /// Every choice among a short journal, too many answers, three faults of the
 /// head's record, four ways not to be fit, an oscillator that is not ready, a
 /// load that is too high and no answer that is ready, each with a plan of every
@@ -61,22 +80,7 @@ fn order_of_refusals(tally: &mut Tally) {
     good.registers[11] = 0x000101;
     for faults in 0..1 << 12 {
         let has = |fault: u32| faults >> fault & 1 == 1;
-        let mut head = good.clone();
-        if has(5) {
-            head.registers[14] = 12;
-        }
-        if has(6) {
-            head.registers[5] = 0x000200;
-        }
-        if has(7) {
-            head.registers[26] = 0x010000;
-        }
-        head.hrc48_ready = !has(8);
-        head.hxt48_ready = !has(9);
-        if has(10) {
-            head = with_load(head, 3, 240_000_001, false);
-        }
-        let mut bytes = buffer(&head, 0).to_vec();
+        let mut bytes = buffer(&with_faults(good.clone(), has), 0).to_vec();
         if has(3) {
             bytes[at::VERSION] = 0;
         }

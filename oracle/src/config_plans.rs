@@ -31,39 +31,43 @@ pub fn few_plans() -> [Record; 6] {
     [DEFAULT, uncalibrated, HXT48, hrc48, dll1, usb]
 }
 
+/// Of a plan within each limit: core select, hdiv and DLL1.
+const CORES: [(u8, u8, [u8; 3]); 18] = [
+    // 24 MHz and below
+    (1, 2, [0; 3]),
+    (0, 255, [0; 3]),
+    (1, 2, [1, 9, 0]),
+    (3, 1, [1, 0, 0]),
+    (3, 10, [1, 9, 0]),
+    // 48 MHz and below
+    (1, 1, [0; 3]),
+    (0, 0, [0; 3]),
+    (0, 1, [1, 9, 0]),
+    (3, 0, [1, 1, 0]),
+    (3, 5, [1, 9, 0]),
+    (3, 1, [1, 3, 1]),
+    // 144 MHz and below
+    (3, 1, [1, 5, 0]),
+    (3, 1, [1, 4, 1]),
+    (3, 2, [1, 9, 0]),
+    // 240 MHz and below
+    (3, 1, [1, 6, 0]),
+    (3, 1, [1, 9, 0]),
+    (3, 2, [1, 15, 0]),
+    (3, 0, [1, 15, 1]),
+];
+
+/// usb, its source and DLL2.
+const USES: [(u8, u8, [u8; 3]); 4] = [
+    (0, 0, [0; 3]),
+    (0, 0, [1, 11, 0]),
+    (1, 0, [1, 11, 1]),
+    (1, 1, [1, 9, 0]),
+];
+
 /// Accepted plans of each supply mode, several core clocks of each, with and
 /// without DLL2 and USB.
 pub fn targets() -> Vec<Record> {
-    const CORES: [(u8, u8, [u8; 3]); 18] = [
-        // 24 MHz and below
-        (1, 2, [0; 3]),
-        (0, 255, [0; 3]),
-        (1, 2, [1, 9, 0]),
-        (3, 1, [1, 0, 0]),
-        (3, 10, [1, 9, 0]),
-        // 48 MHz and below
-        (1, 1, [0; 3]),
-        (0, 0, [0; 3]),
-        (0, 1, [1, 9, 0]),
-        (3, 0, [1, 1, 0]),
-        (3, 5, [1, 9, 0]),
-        (3, 1, [1, 3, 1]),
-        // 144 MHz and below
-        (3, 1, [1, 5, 0]),
-        (3, 1, [1, 4, 1]),
-        (3, 2, [1, 9, 0]),
-        // 240 MHz and below
-        (3, 1, [1, 6, 0]),
-        (3, 1, [1, 9, 0]),
-        (3, 2, [1, 15, 0]),
-        (3, 0, [1, 15, 1]),
-    ];
-    const USES: [(u8, u8, [u8; 3]); 4] = [
-        (0, 0, [0; 3]),
-        (0, 0, [1, 11, 0]),
-        (1, 0, [1, 11, 1]),
-        (1, 1, [1, 9, 0]),
-    ];
     let mut plans = Vec::new();
     for (core, hdiv, dll1) in CORES {
         for (usb, source, dll2) in USES {

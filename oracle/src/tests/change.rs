@@ -1,7 +1,7 @@
 use super::{at_48_mhz, at_240_mhz, entries};
 use crate::call::{self, Outcome};
 use crate::change::{MOST_ENTRIES, change, is_fit, peak, rail_limit};
-use crate::claim::{self, Booked, Seen};
+use crate::claim::{self, Booked, Broken, Seen};
 use crate::head::{Head, Task};
 use crate::plan::{self, DEFAULT, LENGTH, at};
 use crate::random::Random;
@@ -420,53 +420,64 @@ fn demand_3() {
         for _ in 0..12 {
             let before = head.clone();
             let result = match random.below(6) {
-                0 => {
-                    let task = Task {
-                        id: 1 + random.up_to(20),
-                        cycles: 1 + random.below(100_000) as u32,
-                        period_us: 1_000,
-                    };
-                    tasks::book(&head, task).map_or(Ok(()), |after| {
-                        head = after;
-                        booked.add(task);
-                        claim::load_is_carried(&head)
-                    })
-                }
-                1 => {
-                    let id = random.up_to(20);
-                    tasks::release(&head, id).map_or(Ok(()), |after| {
-                        head = after;
-                        booked.take_out(id);
-                        Ok(())
-                    })
-                }
-                2 => {
-                    let request = random.below(50) as u32;
-                    let outcome = call::config_lpsys_hclk_mhz(&head, request);
-                    head = outcome.head.clone();
-                    claim::of_call(&seen(&before, &outcome))
-                }
-                _ => {
-                    let plan = random_plan(&mut random);
-                    let answers = [0, random.up_to(1).into()];
-                    match change(&head, &plan, &answers) {
-                        Err(refusal) => {
-                            assert_ne!(refusal, 37);
-                            Ok(())
-                        }
-                        Ok(outcome) => {
-                            done += usize::from(outcome.answer == 0);
-                            head = outcome.head.clone();
-                            claim::of_change(&seen(&before, &outcome), &plan, &answers)
-                        }
-                    }
-                }
+                0 => books(&mut random, &mut head, &mut booked),
+                1 => releases(&mut random, &mut head, &mut booked),
+                2 => requests(&mut random, &mut head),
+                _ => changes(&mut random, &mut head, &mut done),
             };
             assert_eq!(result, Ok(()), "{before:?}");
             assert_eq!(booked.are_held_by(&head), Ok(()));
         }
     }
     assert!(done > 1_000);
+}
+
+fn books(random: &mut Random, head: &mut Head, booked: &mut Booked) -> Result<(), Broken> {
+    let task = Task {
+        id: 1 + random.up_to(20),
+        cycles: 1 + random.below(100_000) as u32,
+        period_us: 1_000,
+    };
+    let Ok(after) = tasks::book(head, task) else {
+        return Ok(());
+    };
+    *head = after;
+    booked.add(task);
+    claim::load_is_carried(head)
+}
+
+fn releases(random: &mut Random, head: &mut Head, booked: &mut Booked) -> Result<(), Broken> {
+    let id = random.up_to(20);
+    if let Ok(after) = tasks::release(head, id) {
+        *head = after;
+        booked.take_out(id);
+    }
+    Ok(())
+}
+
+fn requests(random: &mut Random, head: &mut Head) -> Result<(), Broken> {
+    let before = head.clone();
+    let outcome = call::config_lpsys_hclk_mhz(head, random.below(50) as u32);
+    *head = outcome.head.clone();
+    claim::of_call(&seen(&before, &outcome))
+}
+
+/// Counts the changes that are done.
+fn changes(random: &mut Random, head: &mut Head, done: &mut usize) -> Result<(), Broken> {
+    let before = head.clone();
+    let plan = random_plan(random);
+    let answers = [0, random.up_to(1).into()];
+    match change(head, &plan, &answers) {
+        Err(refusal) => {
+            assert_ne!(refusal, 37);
+            Ok(())
+        }
+        Ok(outcome) => {
+            *done += usize::from(outcome.answer == 0);
+            *head = outcome.head.clone();
+            claim::of_change(&seen(&before, &outcome), &plan, &answers)
+        }
+    }
 }
 
 fn seen<'a>(before: &'a Head, outcome: &'a Outcome) -> Seen<'a> {
