@@ -1,19 +1,7 @@
 // The 64-bit words that C gets.
 ghost use mathlib.Core.Path.{_≡_};
-ghost use Rattle.verdict.specs.Verdict.{numberOf};
 ghost use Rattle.answer_word.specs.Word.{packed};
 use call::Answer;
-use verdict::Verdict;
-
-// 0 for an accepted plan, else its refusal number.
-pub fn of_verdict(v: Verdict) -> u64
-    ensures { λ r. ⌜ r ≡ numberOf v ⌝ }
-{
-    match v {
-        Verdict::Accepted(_) => 0,
-        Verdict::Refused(refusal) => refusal as u64,
-    }
-}
 
 pub fn pack(refusal: u8, value: u32, entries: usize, taken: usize) -> u64
     ensures { λ r. ⌜ r ≡ packed refusal value entries taken ⌝ }

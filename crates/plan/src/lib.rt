@@ -5,6 +5,7 @@ ghost use mathlib.Core.Path.{_≡_};
 ghost use Rattle.plan.specs.Plan.{encoded, decoded, legal, defaultRecord, sysclkRecord};
 use clock::Dll;
 use clock::MaybeDll;
+pub use code::fields;
 
 // A plan, its fields under the names of the source and in the record's codes.
 pub struct Plan {

@@ -97,8 +97,8 @@ fn usb_divider(usb: bool, source: Hertz) -> u8
     (hertz / 60_000_000) as u8
 }
 
-// HCLK is that of `get_hclk_freq_hz`.
-pub fn target_of(p: Plan, sources: Sources) -> Target
+// What a plan of these sources gives; HCLK is that of `get_hclk_freq_hz`.
+pub fn target_from(p: Plan, sources: Sources) -> Target
     requires { ⌜ sources ≡ sourcesOf p ⌝ }
     ensures { λ r. ⌜ r ≡ targetOf p ⌝ }
 {
@@ -111,4 +111,11 @@ pub fn target_of(p: Plan, sources: Sources) -> Target
         pclk2: clock::prescale(hclk, p.pdiv2),
         usb_div: usb_divider(p.usb, source),
     }
+}
+
+pub fn target_of(p: Plan) -> Target
+    requires { ⌜ (stageOf (p .dll1) ≤ 15) × (stageOf (p .dll2) ≤ 15) ⌝ }
+    ensures { λ r. ⌜ r ≡ targetOf p ⌝ }
+{
+    target_from(p, sources_of(p))
 }

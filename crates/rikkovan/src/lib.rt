@@ -15,7 +15,7 @@ ghost use Rattle.answer_word.specs.Word.{packed};
 pub extern "C" fn rikkovan_plan_check(bytes: &[u8]) -> u64
     ensures { λ r. ⌜ r ≡ numberOf (verdict (now (bytes .entry))) ⌝ }
 {
-    answer_word::of_verdict(planned::check(bytes))
+    planned::check(bytes) as u64
 }
 
 // The 15 frequencies of a head, 0 for none; on a refusal `clocks` stays.

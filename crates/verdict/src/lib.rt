@@ -4,7 +4,7 @@ mod rules;
 ghost use mathlib.Core.Path.{_≡_};
 ghost use mathlib.Core.Bool.{true};
 ghost use Rattle.plan.specs.Plan.{legal};
-ghost use Rattle.verdict.specs.Verdict.{verdictOf};
+ghost use Rattle.verdict.specs.Verdict.{planRefusal, verdictOf};
 use plan::Plan;
 pub use plan_clocks::Target;
 
@@ -21,19 +21,19 @@ pub fn check_plan(p: Plan) -> Verdict
     if !p.is_legal() {
         return Verdict::Refused(3);
     }
-    check_legal(p)
-}
-
-// The same of a plan whose fields lie within their codes, as those of a decoded plan do.
-pub fn check_legal(p: Plan) -> Verdict
-    requires { ⌜ legal p ≡ true ⌝ }
-    ensures { λ r. ⌜ r ≡ verdictOf p ⌝ }
-{
-    let sources = plan_clocks::sources_of(p);
-    let target = plan_clocks::target_of(p, sources);
-    let refusal = rules::refusal(p, sources, target);
+    let refusal = refusal(p);
     if refusal != 0 {
         return Verdict::Refused(refusal);
     }
-    Verdict::Accepted(target)
+    Verdict::Accepted(plan_clocks::target_of(p))
+}
+
+// The refusal, 0 for none, of a plan whose fields lie within their codes, as those of a decoded plan do.
+pub fn refusal(p: Plan) -> u8
+    requires { ⌜ legal p ≡ true ⌝ }
+    ensures { λ r. ⌜ r ≡ planRefusal p ⌝ }
+{
+    let sources = plan_clocks::sources_of(p);
+    let target = plan_clocks::target_from(p, sources);
+    rules::refusal(p, sources, target)
 }

@@ -1,23 +1,30 @@
--- `planned::check` meets its contract: the refusal that was found, or what the plan gives. Assumes nothing.
-use mathlib.Core.Path.{sym, ap, _∙_}
-use Rattle.verdict.specs.declared.Verdict.the-variants.{Accepted}
-use Rattle.plan_clocks.specs.Clocks.{targetOf}
-use Rattle.planned.proofs.Plans.{verdict-refused, verdict-accepted}
+-- `planned::check` meets its contract: the bytes are decoded, then judged. Assumes nothing.
+use mathlib.Core.Path.{sym, _∙_}
+use Rattle.plan.proofs.RoundTrip.{read-legal}
+use Rattle.planned.proofs.Plans.{number-unread, number-read}
 use borrow.Author.Needs.{needs}
 use Rattle.planned.proofs.check.Statement.{statement}
 use Rattle.planned.proofs.check.Tie as tie
 
-admit-requires : tie.Need-admit-requires
-admit-requires c κs = search needs
+decode-requires : tie.Need-decode-requires
+decode-requires c κs = search needs
+
+enum-known-refusal : tie.Need-enum-known-refusal
+enum-known-refusal c = search needs
+
+enum-known-plan : tie.Need-enum-known-plan
+enum-known-plan c = search needs
+
+refusal-requires : tie.Need-refusal-requires
+refusal-requires c κs = read-legal _ _ (sym (c .before .before .before .decode .ensures) ∙ c .before .plan .given .1)
 
 returns : tie.Need-returns
-returns c = verdict-refused _ _ (c .if1 .taken) (c .before .admit .ensures .refusal-is)
+returns c = number-unread _ _ (sym (c .before .before .before .decode .ensures) ∙ c .before .refusal .given .1)
 
 returns-2 : tie.Need-returns-2
 returns-2 c =
-    let plans = c .before .before .admit .ensures in
-    let zero = c .before .if1 .left in
-    ap Accepted (plans .target-is zero ∙ ap targetOf (plans .plan-is zero)) ∙ verdict-accepted _ (sym (plans .refusal-is) ∙ zero)
+    let read = sym (c .before .before .before .before .decode .ensures) ∙ c .before .before .plan .given .1 in
+    c .refusal2 .ensures ∙ number-read _ _ read
 
 pub check-spec : {M : Type 1} → statement M
-check-spec = tie.close (tie.spec admit-requires returns returns-2)
+check-spec = tie.close (tie.spec decode-requires enum-known-refusal enum-known-plan refusal-requires returns returns-2)

@@ -1,9 +1,9 @@
--- `plan_clocks::target_of` meets its contract: each field is what its function ensures. Assumes nothing.
+-- `plan_clocks::target_from` meets its contract: each field is what its function ensures. Assumes nothing.
 use Rattle.time.proofs.Equal.{hertz-is}
 use Rattle.plan_clocks.specs.Clocks.{sourcesOf, targetOf, hclkHz, pclk1Hz, pclk2Hz, usbDivider}
 use borrow.Author.Needs.{needs}
-use Rattle.plan_clocks.proofs.target_of.Statement.{statement}
-use Rattle.plan_clocks.proofs.target_of.Tie as tie
+use Rattle.plan_clocks.proofs.target_from.Statement.{statement}
+use Rattle.plan_clocks.proofs.target_from.Tie as tie
 
 divide-requires : tie.Need-divide-requires
 divide-requires c κs = search needs
@@ -22,7 +22,7 @@ unfolding sourcesOf targetOf hclkHz pclk1Hz pclk2Hz usbDivider
 returns c =
     simp (hertz-is (c .before .before .prescale .ensures), hertz-is (c .before .prescale2 .ensures), hertz-is (c .before .before .before .divide .ensures), c .usb-divider .ensures, c .before .before .before .before .before .before .pre)
 
-pub target-of-spec : {M : Type 1} → statement M
-target-of-spec =
+pub target-from-spec : {M : Type 1} → statement M
+target-from-spec =
     tie.close
     (tie.spec divide-requires prescale-requires prescale-requires-2 usb-divider-requires returns)
