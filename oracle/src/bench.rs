@@ -16,6 +16,9 @@ use std::time::Instant;
 const CALLS: usize = 200;
 const ROUNDS: usize = 501;
 
+/// The depths of the stack that rounds go through; together they are a page or more.
+const FRAMES: usize = 64;
+
 /// A side of a row: makes its call `CALLS` times.
 pub type Side = Box<dyn FnMut()>;
 
@@ -70,14 +73,16 @@ fn measure(mut row: Row) {
         Some(&mut copied),
     ];
     let mut times = [const { Vec::new() }; 4];
-    for _ in 0..ROUNDS {
-        for (side, times) in sides.iter_mut().zip(&mut times) {
-            if let Some(side) = side {
-                let began = Instant::now();
-                side();
-                times.push(began.elapsed().as_nanos() as f64 / CALLS as f64);
+    for round in 0..ROUNDS {
+        deeper(round % FRAMES, &mut || {
+            for (side, times) in sides.iter_mut().zip(&mut times) {
+                if let Some(side) = side {
+                    let began = Instant::now();
+                    side();
+                    times.push(began.elapsed().as_nanos() as f64 / CALLS as f64);
+                }
             }
-        }
+        });
     }
     let [ours, others @ ..] = &times;
     let median = format!("{:.1}", point(ours, 50));
@@ -86,6 +91,18 @@ fn measure(mut row: Row) {
         &median,
         others.each_ref().map(|t| beside(ours, t)),
     );
+}
+
+/// Runs a round so many frames further down the stack. How a call's locals lie to the
+/// bytes that it is lent, modulo a page, is chance, and can cost a third of its time.
+#[inline(never)]
+fn deeper(frames: usize, round: &mut dyn FnMut()) {
+    let frame = black_box([0u8; 64]);
+    match frames {
+        0 => round(),
+        _ => deeper(frames - 1, round),
+    }
+    black_box(&frame);
 }
 
 /// The other's median, and the ratio of ours to it with its spread; nothing where
@@ -113,8 +130,8 @@ fn copy(bytes: usize) -> Side {
     })
 }
 
-/// One plan, then plans in turn, so that no branch is foreseen from the call before.
-/// The original panics on a refused plan.
+/// One plan, then plans in turn: so many that the processor does not learn their order,
+/// as it does that of 1000. The original panics on a refused plan.
 fn plan_checks() -> [Row; 3] {
     let row = |name, plans: Vec<Record>| {
         let decoded: Vec<Plan> = plans.iter().map(|plan| decoded(plan)).collect();
@@ -134,8 +151,8 @@ fn plan_checks() -> [Row; 3] {
     };
     [
         row("plan check, the default plan", vec![DEFAULT]),
-        row("plan check, 1000 accepted plans", plans(true)),
-        row("plan check, 1000 refused plans", plans(false)),
+        row("plan check, 10000 accepted plans", plans(true)),
+        row("plan check, 10000 refused plans", plans(false)),
     ]
 }
 
@@ -159,7 +176,7 @@ fn plans(accepted: bool) -> Vec<Record> {
     let is_wanted = |plan: &Record| (plan::check(plan) == 0) == accepted;
     std::iter::from_fn(move || Some(draw()))
         .filter(is_wanted)
-        .take(1000)
+        .take(10_000)
         .collect()
 }
 

@@ -15,19 +15,7 @@ fn wait_none(m: Machine, journal: &mut [u32], kind: u32) -> Machine
     ensures { λ r. ⌜ Kept 1 m r ⌝ }
     ensures { λ r. ⌜ r .taken ≡ m .taken ⌝ }
 {
-    let stop = m.stop;
-    if stop != 0 {
-        return m;
-    }
-    let head = m.head;
-    let at = m.at;
-    journal[at] = 49 * 16777216 + kind * 65536;
-    Machine {
-        head,
-        at: at + 1,
-        taken: m.taken,
-        stop: 0,
-    }
+    m.write(journal, 49 * 16777216 + kind * 65536)
 }
 
 fn set_hxt48(m: Machine) -> Machine

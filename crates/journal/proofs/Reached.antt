@@ -74,13 +74,13 @@ ran-as {f} {g} {m} {m'} {j} {j'} same x = record { does = λ r j₀ at. subst (�
 
 -- one entry, and nothing else
 pub ran-wrote : (m : Machine) (j : List ℕ) (e : ℕ) → m .stop ≡ 0 → m .at < length j →
-    Ran (going (wrote e)) m (record { head = m .head; at = m .at + 1; taken = m .taken; stop = 0 }) j (set j (m .at) e)
+    Ran (going (wrote e)) m (record { head = m .head; at = m .at + 1; taken = m .taken; stop = m .stop }) j (set j (m .at) e)
 ran-wrote m j e z h = ran-entry (wrote e) m _ j e z h does
   where
     does : (r : Run) → m ≡ machineOf r →
-        (_≡_ {A = Machine} (record { head = m .head; at = m .at + 1; taken = m .taken; stop = 0 }) (machineOf (wrote e r))) ×
+        (_≡_ {A = Machine} (record { head = m .head; at = m .at + 1; taken = m .taken; stop = m .stop }) (machineOf (wrote e r))) ×
         (r .entries ++ (e ∷ []) ≡ r .entries ++ (e ∷ []))
-    does r q = (rw (← z, q) (simp length-append), refl)
+    does r q = (rw q (simp length-append), refl)
 
 -- another head, and no entry
 pub ran-headed : (f : Head → Head) (m : Machine) (j : List ℕ) → m .stop ≡ 0 →

@@ -10,11 +10,11 @@ use Rattle.journal.specs.Machine.{machineOf, Ran}
 use Rattle.journal.proofs.Reached.{ran-entry}
 
 pub ran-store : (m : Machine) (j : List ℕ) (n v : ℕ) → m .stop ≡ 0 → m .at < length j →
-    Ran (store n v) m (record { head = stored (m .head) n v; at = m .at + 1; taken = m .taken; stop = 0 }) j (set j (m .at) (entry n v))
+    Ran (store n v) m (record { head = stored (m .head) n v; at = m .at + 1; taken = m .taken; stop = m .stop }) j (set j (m .at) (entry n v))
 unfolding store
 ran-store m j n v z h = ran-entry (λ (r : Run). wrote (entry n v) (headed (stored (r .head) n v) r)) m _ j (entry n v) z h does
   where
     does : (r : Run) → m ≡ machineOf r →
-        (_≡_ {A = Machine} (record { head = stored (m .head) n v; at = m .at + 1; taken = m .taken; stop = 0 }) (machineOf (wrote (entry n v) (headed (stored (r .head) n v) r)))) ×
+        (_≡_ {A = Machine} (record { head = stored (m .head) n v; at = m .at + 1; taken = m .taken; stop = m .stop }) (machineOf (wrote (entry n v) (headed (stored (r .head) n v) r)))) ×
         (r .entries ++ (entry n v ∷ []) ≡ r .entries ++ (entry n v ∷ []))
-    does r e = (rw (← z, e) (simp length-append), refl)
+    does r e = (rw e (simp length-append), refl)

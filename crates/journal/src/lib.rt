@@ -1,11 +1,13 @@
 // A running call: stores and delays over the head by value, each writing its entry into the lent journal.
+// A step of the machine makes the next one at one place, whether the call has ended or not: at two, the
+// head would be copied twice.
 ghost use mathlib.Core.Path.{_≡_};
 ghost use mathlib.Core.Bool.{true};
 ghost use Prim.Native.Nat.{_<_, _≤_};
 ghost use lib.ListN.{length};
 ghost use Rattle.register.specs.Codes.{fitsRegister};
 ghost use Rattle.head.specs.Encodable.{Encodable};
-ghost use Rattle.journal.specs.Run.{cycles as cyclesOf, halted, store, delay};
+ghost use Rattle.journal.specs.Run.{cycles as cyclesOf, going, wrote, halted, store, delay};
 ghost use Rattle.journal.specs.Machine.{Ran, Quietly, Ready, Kept};
 use head::Head;
 use time::Hertz;
@@ -29,19 +31,41 @@ impl Machine {
         ensures { λ r. ⌜ Kept 1 self r ⌝ }
         ensures { λ r. ⌜ r .taken ≡ self .taken ⌝ }
     {
-        let stop = self.stop;
-        if stop != 0 {
-            return self;
-        }
-        let at = self.at;
-        journal[at] = (number as u32) * 16777216 + value;
         let mut head = self.head;
-        head.regs[number] = value;
+        let mut at = self.at;
+        let stop = self.stop;
+        if stop == 0 {
+            journal[at] = (number as u32) * 16777216 + value;
+            head.regs[number] = value;
+            at += 1;
+        }
         Machine {
             head,
-            at: at + 1,
+            at,
             taken: self.taken,
-            stop: 0,
+            stop,
+        }
+    }
+
+    // Writes an entry that is no store.
+    pub fn write(self, journal: &mut [u32], word: u32) -> Machine
+        requires { ⌜ Ready 1 self (now journal) ⌝ }
+        ensures { λ r. ⌜ Ran (going (wrote word)) self r (now (journal .entry)) (now (journal .exit)) ⌝ }
+        ensures { λ r. ⌜ Kept 1 self r ⌝ }
+        ensures { λ r. ⌜ r .taken ≡ self .taken ⌝ }
+    {
+        let head = self.head;
+        let mut at = self.at;
+        let stop = self.stop;
+        if stop == 0 {
+            journal[at] = word;
+            at += 1;
+        }
+        Machine {
+            head,
+            at,
+            taken: self.taken,
+            stop,
         }
     }
 
@@ -52,16 +76,16 @@ impl Machine {
         ensures { λ r. ⌜ Kept 0 self r ⌝ }
         ensures { λ r. ⌜ r .taken ≡ self .taken ⌝ }
     {
-        let stop = self.stop;
-        if stop != 0 {
-            return self;
-        }
         let head = self.head;
+        let mut stop = self.stop;
+        if stop == 0 {
+            stop = refusal;
+        }
         Machine {
             head,
             at: self.at,
             taken: self.taken,
-            stop: refusal,
+            stop,
         }
     }
 }
@@ -83,25 +107,9 @@ pub fn delay_us(m: Machine, journal: &mut [u32], us: u32) -> Machine
     ensures { λ r. ⌜ Kept 1 m r ⌝ }
     ensures { λ r. ⌜ r .taken ≡ m .taken ⌝ }
 {
-    let stop = m.stop;
-    if stop != 0 {
-        return m;
-    }
     let head = m.head;
-    let at = m.at;
     let Reading::At(f) = clock_read::get_hclk_freq(head) else {
-        return Machine {
-            head,
-            at,
-            taken: m.taken,
-            stop: 34,
-        };
+        return m.refuse(34);
     };
-    journal[at] = 48 * 16777216 + cycles(f, us);
-    Machine {
-        head,
-        at: at + 1,
-        taken: m.taken,
-        stop: 0,
-    }
+    m.write(journal, 48 * 16777216 + cycles(f, us))
 }

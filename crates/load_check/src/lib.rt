@@ -24,17 +24,16 @@ pub fn load_check(bytes: &[u8]) -> Checked
     if 16 < count {
         return refused(41);
     }
+    // Added up before the tests, which the processor makes while it waits for the divisions.
+    let tasks = task_bytes::tasks_at(bytes, 0, count);
+    let load = load::load(tasks, count);
     if !task_tests::all_ok(bytes, count) {
         return refused(16);
     }
     if !task_tests::distinct(bytes, count) {
         return refused(40);
     }
-    let tasks = task_bytes::tasks_at(bytes, 0, count);
-    Checked {
-        refusal: 0,
-        load: load::load(tasks, count),
-    }
+    Checked { refusal: 0, load }
 }
 
 impl Checked {

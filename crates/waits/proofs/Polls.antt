@@ -47,14 +47,14 @@ polls a m r q e f = ap (λ (w : Machine). poll (drop (w .taken) a)) (sym e) ∙ 
 
 -- a wait that ends, by how many answers it takes
 pub ran-hit : (m : Machine) (j a : List ℕ) (kind n : ℕ) → m .stop ≡ 0 → m .at < length j → poll (drop (m .taken) a) ≡ hit n →
-    Ran (wait kind a) m (record { head = m .head; at = m .at + 1; taken = m .taken + n; stop = 0 }) j (set j (m .at) (entry 49 (kind * 65536 + n)))
+    Ran (wait kind a) m (record { head = m .head; at = m .at + 1; taken = m .taken + n; stop = m .stop }) j (set j (m .at) (entry 49 (kind * 65536 + n)))
 unfolding wait
 ran-hit m j a kind n z h f = ran-entry (λ (r : Run). waited kind a (poll (drop (r .taken) a)) r) m _ j (entry 49 (kind * 65536 + n)) z h does
   where
     does : (r : Run) → m ≡ machineOf r →
-        (_≡_ {A = Machine} (record { head = m .head; at = m .at + 1; taken = m .taken + n; stop = 0 }) (machineOf (waited kind a (poll (drop (r .taken) a)) r))) ×
+        (_≡_ {A = Machine} (record { head = m .head; at = m .at + 1; taken = m .taken + n; stop = m .stop }) (machineOf (waited kind a (poll (drop (r .taken) a)) r))) ×
         (waited kind a (poll (drop (r .taken) a)) r .entries ≡ r .entries ++ (entry 49 (kind * 65536 + n) ∷ []))
-    does r q = (rw (polls a m r (hit n) q f, ← z, q) (simp length-append), rw (polls a m r (hit n) q f))
+    does r q = (rw (polls a m r (hit n) q f, q) (simp length-append), rw (polls a m r (hit n) q f))
 
 -- a wait that 36 cuts short
 pub ran-dry : (m : Machine) (j a : List ℕ) (kind : ℕ) → m .stop ≡ 0 → poll (drop (m .taken) a) ≡ dry →
@@ -74,7 +74,7 @@ found-most a from r dry f = omega (arith, f)
 
 -- a measurement that ends
 pub ran-measured : (m : Machine) (j a : List ℕ) (n : ℕ) → m .stop ≡ 0 → m .at < length j → poll (drop (m .taken) a) ≡ hit n → m .taken + n + 2 ≤ length a →
-    Ran (measure a) m (record { head = m .head; at = m .at + 1; taken = m .taken + (n + 2); stop = 0 }) j (set j (m .at) (entry 49 (5 * 65536 + (n + 2))))
+    Ran (measure a) m (record { head = m .head; at = m .at + 1; taken = m .taken + (n + 2); stop = m .stop }) j (set j (m .at) (entry 49 (5 * 65536 + (n + 2))))
 unfolding measure
 ran-measured m j a n z h f l = ran-entry (λ (r : Run). measured a (poll (drop (r .taken) a)) r) m _ j (entry 49 (5 * 65536 + (n + 2))) z h does
   where
@@ -82,9 +82,9 @@ ran-measured m j a n z h f l = ran-entry (λ (r : Run). measured a (poll (drop (
     enough r q = ap (λ (w : Machine). leb (w .taken + n + 2) (length a)) (sym q) ∙ le-leb _ _ l
 
     does : (r : Run) → m ≡ machineOf r →
-        (_≡_ {A = Machine} (record { head = m .head; at = m .at + 1; taken = m .taken + (n + 2); stop = 0 }) (machineOf (measured a (poll (drop (r .taken) a)) r))) ×
+        (_≡_ {A = Machine} (record { head = m .head; at = m .at + 1; taken = m .taken + (n + 2); stop = m .stop }) (machineOf (measured a (poll (drop (r .taken) a)) r))) ×
         (measured a (poll (drop (r .taken) a)) r .entries ≡ r .entries ++ (entry 49 (5 * 65536 + (n + 2)) ∷ []))
-    does r q = (rw (polls a m r (hit n) q f, enough r q, ← z, q) (simp length-append), rw (polls a m r (hit n) q f, enough r q))
+    does r q = (rw (polls a m r (hit n) q f, enough r q, q) (simp length-append), rw (polls a m r (hit n) q f, enough r q))
 
 -- one that 36 cuts short
 too-few : (a : List ℕ) (r : Run) (i : ℕ) (q : Poll) → Found a (r .taken) i q → length a ≤ i + 2 → measured a q r ≡ ended 36 (length a) r

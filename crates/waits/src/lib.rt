@@ -1,4 +1,5 @@
 // Waits of a running call: polls take the lent answers one after the other, 0 not ready, else ready.
+// As in `journal`, the next machine is made at one place.
 ghost use mathlib.Core.Path.{_≡_};
 ghost use Prim.Native.Nat.{_<_, _≤_};
 ghost use lib.ListN.{length, drop};
@@ -30,28 +31,26 @@ pub fn wait_for(m: Machine, journal: &mut [u32], answers: &[u16], kind: u32) -> 
     ensures { λ r. ⌜ Kept 1 m r ⌝ }
     ensures { λ r. ⌜ r .taken ≤ length (now (answers .entry)) ⌝ }
 {
-    let stop = m.stop;
-    if stop != 0 {
-        return m;
-    }
     let head = m.head;
-    let at = m.at;
-    let from = m.taken;
-    let i = first_ready(answers, from);
-    if i < answers.len() {
-        journal[at] = 49 * 16777216 + (kind * 65536 + ((i + 1 - from) as u32));
-        return Machine {
-            head,
-            at: at + 1,
-            taken: i + 1,
-            stop: 0,
-        };
+    let mut at = m.at;
+    let mut taken = m.taken;
+    let mut stop = m.stop;
+    if stop == 0 {
+        let i = first_ready(answers, taken);
+        if i < answers.len() {
+            journal[at] = 49 * 16777216 + (kind * 65536 + ((i + 1 - taken) as u32));
+            at += 1;
+            taken = i + 1;
+        } else {
+            taken = i;
+            stop = 36;
+        }
     }
     Machine {
         head,
         at,
-        taken: i,
-        stop: 36,
+        taken,
+        stop,
     }
 }
 
@@ -63,27 +62,25 @@ pub fn measure(m: Machine, journal: &mut [u32], answers: &[u16]) -> Machine
     ensures { λ r. ⌜ Kept 1 m r ⌝ }
     ensures { λ r. ⌜ (r .taken ≤ length (now (answers .entry))) × (r .stop ≡ 0 → 2 ≤ r .taken) ⌝ }
 {
-    let stop = m.stop;
-    if stop != 0 {
-        return m;
-    }
     let head = m.head;
-    let at = m.at;
-    let from = m.taken;
-    let i = first_ready(answers, from);
-    if i + 2 < answers.len() {
-        journal[at] = 49 * 16777216 + (5 * 65536 + ((i + 3 - from) as u32));
-        return Machine {
-            head,
-            at: at + 1,
-            taken: i + 3,
-            stop: 0,
-        };
+    let mut at = m.at;
+    let mut taken = m.taken;
+    let mut stop = m.stop;
+    if stop == 0 {
+        let i = first_ready(answers, taken);
+        if i + 2 < answers.len() {
+            journal[at] = 49 * 16777216 + (5 * 65536 + ((i + 3 - taken) as u32));
+            at += 1;
+            taken = i + 3;
+        } else {
+            taken = answers.len();
+            stop = 36;
+        }
     }
     Machine {
         head,
         at,
-        taken: answers.len(),
-        stop: 36,
+        taken,
+        stop,
     }
 }

@@ -10,11 +10,6 @@ use borrow.Author.Needs.{needs}
 use Rattle.waits.proofs.measure.Statement.{statement}
 use Rattle.waits.proofs.measure.Tie as tie
 
-returns : tie.Need-returns
-unfolding measure
-returns c =
-    (ran-ended _ (c .before .before .before .args .m) _ (c .if1 .taken), (record { room = omega arith; encodable = c .before .before .before .pre .0 .encodable }, (search needs, λ z. absurd (c .if1 .taken z))))
-
 first-ready-requires : tie.Need-first-ready-requires
 first-ready-requires c κs = search needs
 
@@ -48,38 +43,46 @@ mul-journal-3 c = search needs
 slice-write-journal : tie.Need-slice-write-journal
 slice-write-journal c = search needs
 
-add-t14 : tie.Need-add-t14
-add-t14 c = search needs
+add-at : tie.Need-add-at
+add-at c = search needs
 
-add-t19 : tie.Need-add-t19
-add-t19 c = search needs
+add-taken : tie.Need-add-taken
+add-taken c = search needs
 
 same-length : tie.Need-same-length
 same-length c = search needs
 
-returns-2 : tie.Need-returns-2
-returns-2 c =
-    let m = c .before .before .before .before .before .before .args .m in
+returns : tie.Need-returns
+returns c =
+    let start = c .before .before .before .before .before .before in
+    let m = start .args .m in
+    let a = start .args .answers .now in
     let i = c .before .first-ready .result in
-    let found = found-hit (c .before .before .before .before .before .before .args .answers .now) (m .taken) i (poll (drop (m .taken) (c .before .before .before .before .before .before .args .answers .now))) (c .before .first-ready .ensures) (omega arith) in
+    let found = found-hit a (m .taken) i (poll (drop (m .taken) a)) (c .before .first-ready .ensures) (omega arith) in
     let n = i + 1 - m .taken in
     let taken : m .taken + (n + 2) ≡ i + 3 = omega (arith, found .0) in
     let count : n + 2 ≡ i + 3 - m .taken = omega (arith, found .0) in (
-      rw (taken, count) at (ran-measured m (c .before .before .before .before .before .before .args .journal .now) (c .before .before .before .before .before .before .args .answers .now) n (c .before .before .before .if1 .left) (search needs) (found .1) (omega (arith, found .0))),
-      (record { room = omega arith; encodable = c .before .before .before .before .before .before .pre .0 .encodable }, (omega arith, λ z. omega arith)),
+      rw (taken, count) at (ran-measured m (start .args .journal .now) a n (c .before .before .if1 .taken) (search needs) (found .1) (omega (arith, found .0))),
+      (record { room = omega arith; encodable = start .pre .0 .encodable }, (omega arith, λ z. omega arith)),
+    )
+
+returns-2 : tie.Need-returns-2
+returns-2 c =
+    let start = c .before .before .before .before .before .before in (
+      ran-unmeasured (start .args .m) _ (start .args .answers .now) (c .before .first-ready .result) (c .before .before .if1 .taken) (c .before .first-ready .ensures) (c .if2 .left),
+      (record { room = omega arith; encodable = start .pre .0 .encodable }, (omega arith, λ z. absurd (omega arith))),
     )
 
 returns-3 : tie.Need-returns-3
-returns-3 c = (
-  ran-unmeasured (c .before .before .before .before .before .before .args .m) _ (c .before .before .before .before .before .before .args .answers .now) (c .before .first-ready .result) (c .before .before .before .if1 .left) (c .before .first-ready .ensures) (c .if2 .left),
-  (record { room = omega arith; encodable = c .before .before .before .before .before .before .pre .0 .encodable }, (omega arith, λ z. absurd (omega arith))),
-)
+unfolding measure
+returns-3 c =
+    let start = c .before .before .before .before in
+    (ran-ended _ (start .args .m) _ (c .if1 .left), (record { room = omega arith; encodable = start .pre .0 .encodable }, (search needs, λ z. absurd (c .if1 .left z))))
 
 pub measure-spec : {M : Type 1} → statement M
 measure-spec =
     tie.close
     (tie.spec
-    returns
     first-ready-requires
     add-if2
     mul-journal
@@ -91,8 +94,9 @@ measure-spec =
     add-journal-3
     mul-journal-3
     slice-write-journal
-    add-t14
-    add-t19
+    add-at
+    add-taken
     same-length
+    returns
     returns-2
     returns-3)

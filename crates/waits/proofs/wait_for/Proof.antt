@@ -12,11 +12,6 @@ use borrow.Author.Needs.{needs}
 use Rattle.waits.proofs.wait_for.Statement.{statement}
 use Rattle.waits.proofs.wait_for.Tie as tie
 
-returns : tie.Need-returns
-unfolding wait
-returns c =
-    (ran-ended _ (c .before .before .before .args .m) _ (c .if1 .taken), (record { room = omega arith; encodable = c .before .before .before .pre .0 .encodable }, search needs))
-
 first-ready-requires : tie.Need-first-ready-requires
 first-ready-requires c κs = search needs
 
@@ -47,39 +42,47 @@ mul-journal-3 c = search needs
 slice-write-journal : tie.Need-slice-write-journal
 slice-write-journal c = search needs
 
-add-t14 : tie.Need-add-t14
-add-t14 c = search needs
+add-at : tie.Need-add-at
+add-at c = search needs
 
-add-t19 : tie.Need-add-t19
-add-t19 c = search needs
+add-taken : tie.Need-add-taken
+add-taken c = search needs
 
 same-length : tie.Need-same-length
 same-length c = search needs
 
+returns : tie.Need-returns
+returns c =
+    let start = c .before .before .before .before .before .before in
+    let m = start .args .m in
+    let a = start .args .answers .now in
+    let i = c .before .first-ready .result in
+    let found = found-hit a (m .taken) i (poll (drop (m .taken) a)) (c .before .first-ready .ensures) (c .if2 .taken) in
+    let count : m .taken + (i + 1 - m .taken) ≡ i + 1 = omega (arith, found .0) in (
+      rw count at (ran-hit m (start .args .journal .now) a (start .args .kind) (i + 1 - m .taken) (c .before .before .if1 .taken) (search needs) (found .1)),
+      (record { room = omega arith; encodable = start .pre .0 .encodable }, omega arith),
+    )
+
 returns-2 : tie.Need-returns-2
 returns-2 c =
-    let m = c .before .before .before .before .before .before .args .m in
-    let i = c .before .first-ready .result in
-    let found = found-hit (c .before .before .before .before .before .before .args .answers .now) (m .taken) i (poll (drop (m .taken) (c .before .before .before .before .before .before .args .answers .now))) (c .before .first-ready .ensures) (c .if2 .taken) in
-    let count : m .taken + (i + 1 - m .taken) ≡ i + 1 = omega (arith, found .0) in (
-      rw count at (ran-hit m (c .before .before .before .before .before .before .args .journal .now) (c .before .before .before .before .before .before .args .answers .now) (c .before .before .before .before .before .before .args .kind) (i + 1 - m .taken) (c .before .before .before .if1 .left) (search needs) (found .1)),
-      (record { room = omega arith; encodable = c .before .before .before .before .before .before .pre .0 .encodable }, omega arith),
+    let start = c .before .before .before .before .before .before in
+    let m = start .args .m in
+    let a = start .args .answers .now in
+    let found = found-dry a (m .taken) (c .before .first-ready .result) (poll (drop (m .taken) a)) (c .before .first-ready .ensures) (c .if2 .left) in (
+      rw (found .0) (ran-dry m _ a (start .args .kind) (c .before .before .if1 .taken) (found .1)),
+      (record { room = omega arith; encodable = start .pre .0 .encodable }, omega arith),
     )
 
 returns-3 : tie.Need-returns-3
+unfolding wait
 returns-3 c =
-    let m = c .before .before .before .before .before .before .args .m in
-    let i = c .before .first-ready .result in
-    let found = found-dry (c .before .before .before .before .before .before .args .answers .now) (m .taken) i (poll (drop (m .taken) (c .before .before .before .before .before .before .args .answers .now))) (c .before .first-ready .ensures) (c .if2 .left) in (
-      rw (found .0) (ran-dry m _ (c .before .before .before .before .before .before .args .answers .now) (c .before .before .before .before .before .before .args .kind) (c .before .before .before .if1 .left) (found .1)),
-      (record { room = omega arith; encodable = c .before .before .before .before .before .before .pre .0 .encodable }, omega arith),
-    )
+    let start = c .before .before .before .before in
+    (ran-ended _ (start .args .m) _ (c .if1 .left), (record { room = omega arith; encodable = start .pre .0 .encodable }, search needs))
 
 pub wait-for-spec : {M : Type 1} → statement M
 wait-for-spec =
     tie.close
     (tie.spec
-    returns
     first-ready-requires
     mul-journal
     mul-journal-2
@@ -90,8 +93,9 @@ wait-for-spec =
     add-journal-3
     mul-journal-3
     slice-write-journal
-    add-t14
-    add-t19
+    add-at
+    add-taken
     same-length
+    returns
     returns-2
     returns-3)

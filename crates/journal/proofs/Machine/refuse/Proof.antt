@@ -9,14 +9,14 @@ use Rattle.journal.proofs.Machine.refuse.Tie as tie
 
 returns : tie.Need-returns
 unfolding halted
-returns c = (λ j. ran-ended _ (c .before .args .self) j (c .if1 .taken), (record { room = omega arith; encodable = c .before .pre }, refl))
+returns c = (
+  λ j. ran-quiet (λ (r : Run). ended (c .before .before .args .refusal) (r .taken) r) (c .before .before .args .self) _ j (c .if1 .taken) (λ r q. (ap (λ (w : Machine). record { head = w .head; at = w .at; taken = w .taken; stop = c .before .before .args .refusal }) q, refl)),
+  (record { room = omega arith; encodable = c .before .before .pre }, refl),
+)
 
 returns-2 : tie.Need-returns-2
 unfolding halted
-returns-2 c = (
-  λ j. ran-quiet (λ (r : Run). ended (c .before .before .args .refusal) (r .taken) r) (c .before .before .args .self) _ j (c .before .if1 .left) (λ r q. (ap (λ (w : Machine). record { head = w .head; at = w .at; taken = w .taken; stop = c .before .before .args .refusal }) q, refl)),
-  (record { room = omega arith; encodable = c .before .before .pre }, refl),
-)
+returns-2 c = (λ j. ran-ended _ (c .before .before .args .self) j (c .if1 .left), (record { room = omega arith; encodable = c .before .before .pre }, refl))
 
 pub refuse-spec : {M : Type 1} → statement M
 refuse-spec = tie.close (tie.spec returns returns-2)

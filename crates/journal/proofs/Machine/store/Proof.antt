@@ -10,11 +10,6 @@ use borrow.Author.Needs.{needs}
 use Rattle.journal.proofs.Machine.store.Statement.{statement}
 use Rattle.journal.proofs.Machine.store.Tie as tie
 
-returns : tie.Need-returns
-unfolding store
-returns c =
-    (ran-ended _ (c .before .args .self) _ (c .if1 .taken), (record { room = omega arith; encodable = c .before .pre .0 .encodable }, refl))
-
 cast-journal : tie.Need-cast-journal
 cast-journal c = search needs
 
@@ -22,7 +17,7 @@ mul-journal : tie.Need-mul-journal
 mul-journal c = search needs
 
 add-journal : tie.Need-add-journal
-add-journal c = omega (arith, fits-word _ _ (c .before .pre .1 .1))
+add-journal c = omega (arith, fits-word _ _ (c .before .before .pre .1 .1))
 
 mul-journal-2 : tie.Need-mul-journal-2
 mul-journal-2 c = search needs
@@ -36,23 +31,27 @@ mul-head c = search needs
 element-write-head : tie.Need-element-write-head
 element-write-head c = search needs
 
-add-t12 : tie.Need-add-t12
-add-t12 c = search needs
+add-at : tie.Need-add-at
+add-at c = search needs
 
 same-length : tie.Need-same-length
 same-length c = search needs
 
-returns-2 : tie.Need-returns-2
-returns-2 c = (
-  ran-store (c .before .before .args .self) (c .before .before .args .journal .now) (c .before .before .args .number) (c .before .before .args .value) (c .before .if1 .left) (search needs),
+returns : tie.Need-returns
+returns c = (
+  ran-store (c .before .before .args .self) (c .before .before .args .journal .now) (c .before .before .args .number) (c .before .before .args .value) (c .if1 .taken) (search needs),
   (record { room = omega arith; encodable = store-encodable _ _ _ (c .before .before .pre .0 .encodable) (c .before .before .pre .1 .1) }, refl),
 )
+
+returns-2 : tie.Need-returns-2
+unfolding store
+returns-2 c =
+    (ran-ended _ (c .before .before .args .self) _ (c .if1 .left), (record { room = omega arith; encodable = c .before .before .pre .0 .encodable }, refl))
 
 pub store-spec : {M : Type 1} → statement M
 store-spec =
     tie.close
     (tie.spec
-    returns
     cast-journal
     mul-journal
     add-journal
@@ -60,6 +59,7 @@ store-spec =
     slice-write-journal
     mul-head
     element-write-head
-    add-t12
+    add-at
     same-length
+    returns
     returns-2)
