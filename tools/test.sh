@@ -6,11 +6,10 @@ cd "$(dirname "$0")/.."
 exec </dev/null
 PATH=$PATH:${HOME:-/root}/.cargo/bin
 
-logs=$(mktemp -d)
-log=$logs/rt
+log=$(mktemp)
+oracle_log=$(mktemp)
 oracle_tests=
-library=
-trap 'rm -rf "$logs"; kill $oracle_tests $library 2>/dev/null || true' EXIT
+trap 'rm -f "$log" "$oracle_log"; [ -z "$oracle_tests" ] || kill "$oracle_tests" 2>/dev/null || true' EXIT
 
 say() { printf 'test: %s\n' "$*"; }
 
@@ -61,7 +60,7 @@ can_compare() { [ -d "$sources/sifli-hal/src" ] && has_cargo; }
 # The tests of the oracle need nothing proved, and run on what the proofs leave of the processors.
 begin_oracle_tests() {
     can_compare || return 0
-    nice -n 19 make --no-print-directory test-oracle >"$logs/oracle" 2>&1 &
+    nice -n 19 make --no-print-directory test-oracle >"$oracle_log" 2>&1 &
     oracle_tests=$!
 }
 
@@ -70,26 +69,7 @@ end_oracle_tests() {
     local status=0
     wait "$oracle_tests" || status=$?
     oracle_tests=
-    cat "$logs/oracle"
-    return "$status"
-}
-
-# The library, and the oracle that is linked with it, are made beside the must-fail edits, which begin when every crate is proved.
-begin_library() {
-    local made=(lib)
-    can_compare && made+=(oracle)
-    {
-        until grep -qs '^rt: must-fail ' "$log"; do sleep 1; done
-        exec nice -n 19 make --no-print-directory "${made[@]}"
-    } >"$logs/library" 2>&1 &
-    library=$!
-}
-
-end_library() {
-    local status=0
-    wait "$library" || status=$?
-    library=
-    cat "$logs/library"
+    cat "$oracle_log"
     return "$status"
 }
 
@@ -119,10 +99,8 @@ need "${CXX:-g++}" 'to test the header from C++'
 say_skipped
 stage 'list of crates' every_crate_is_listed
 begin_oracle_tests
-begin_library
 stage 'rt ci' rt_ci
 stage 'tests of the oracle' end_oracle_tests
-stage 'library' end_library
 stage 'tests of the library and the programs' test_proved
 say "all passed ($SECONDS s)"
 tail -n 1 "$log"
