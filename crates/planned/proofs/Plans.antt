@@ -11,7 +11,6 @@ use Rattle.plan.specs.declared.Decoded.{Decoded}
 use Rattle.plan.specs.declared.Decoded.the-variants.{Read, Unread}
 use Rattle.plan.specs.Plan.{planOf, recordRefusal, legal, decoded}
 use Rattle.plan.proofs.RoundTrip.{read-is, read-legal}
-use Rattle.plan_clocks.specs.declared.Target.{Target}
 use Rattle.plan_clocks.specs.Clocks.{usbDivider, targetOf}
 use Rattle.verdict.specs.Verdict.{planRefusal, judged, verdict, numberOf}
 use Rattle.verdict.proofs.Passed.{number-is}
