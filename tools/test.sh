@@ -6,10 +6,10 @@ cd "$(dirname "$0")/.."
 exec </dev/null
 PATH=$PATH:${HOME:-/root}/.cargo/bin
 
-log=$(mktemp)
-oracle_log=$(mktemp)
-oracle_tests=
-trap 'rm -f "$log" "$oracle_log"; [ -z "$oracle_tests" ] || kill "$oracle_tests" 2>/dev/null || true' EXIT
+logs=$(mktemp -d)
+log=$logs/rt
+declare -A begun
+trap 'rm -rf "$logs"; kill "${begun[@]}" 2>/dev/null || true' EXIT
 
 say() { printf 'test: %s\n' "$*"; }
 
@@ -30,8 +30,6 @@ stage() { # NAME COMMAND..
     "$@" || fail "$name"
     say "$name: ok ($((SECONDS - began)) s)"
 }
-
-part() { make --no-print-directory "$@"; }
 
 # rt ci refuses a Rattle file that no listed crate has; this also finds a folder without one.
 every_crate_is_listed() {
@@ -57,23 +55,33 @@ has_cargo() { command -v cargo >/dev/null; }
 
 can_compare() { [ -d "$sources/sifli-hal/src" ] && has_cargo; }
 
-# The tests of the oracle need nothing proved, and run on what the proofs leave of the processors.
-begin_oracle_tests() {
-    can_compare || return 0
-    nice -n 19 make --no-print-directory test-oracle >"$oracle_log" 2>&1 &
-    oracle_tests=$!
+# Runs a command beside the others, on what they leave of the processors.
+begin() { # NAME COMMAND..
+    "${@:2}" >"$logs/$1" 2>&1 &
+    begun[$1]=$!
 }
 
-end_oracle_tests() {
-    [ -n "$oracle_tests" ] || return 0
+# Waits for it, and prints what it said.
+end() { # NAME
     local status=0
-    wait "$oracle_tests" || status=$?
-    oracle_tests=
-    cat "$oracle_log"
+    wait "${begun[$1]}" || status=$?
+    unset "begun[$1]"
+    cat "$logs/$1"
     return "$status"
 }
 
-# What uses the proved library and programs, two parts at a time.
+low_make() { exec nice -n 19 make --no-print-directory "$@"; }
+
+# They need nothing proved.
+test_oracle() {
+    can_compare || return 0
+    low_make test-oracle
+}
+
+# Whether this run has proved the library and the programs: rt writes these files then.
+has_proved() { [ -f target/stamp/rikkovan ] && [ -f target/log/lpset.stamp ] && [ -f target/log/moments.stamp ]; }
+
+# What uses the library and the programs, two parts at a time.
 test_proved() {
     local parts=(lib test-programs test-c test-fuzz)
     if can_compare; then
@@ -81,7 +89,8 @@ test_proved() {
     elif has_cargo; then
         parts+=(test-rust)
     fi
-    part -j2 --output-sync "${parts[@]}"
+    until has_proved; do sleep 1; done
+    low_make -j2 --output-sync "${parts[@]}"
 }
 
 say_skipped() {
@@ -98,9 +107,11 @@ need "${CXX:-g++}" 'to test the header from C++'
 
 say_skipped
 stage 'list of crates' every_crate_is_listed
-begin_oracle_tests
+rm -rf target
+begin oracle test_oracle
+begin proved test_proved
 stage 'rt ci' rt_ci
-stage 'tests of the oracle' end_oracle_tests
-stage 'tests of the library and the programs' test_proved
+stage 'tests of the oracle' end oracle
+stage 'tests of the library and the programs' end proved
 say "all passed ($SECONDS s)"
 tail -n 1 "$log"

@@ -14,10 +14,10 @@ pub fn refusal(head: Head, task: Task) -> u8
 {
     let tasks = head.tasks;
     let count = head.count;
-    if !task::ok(task) {
+    if !task_rules::ok(task) {
         return 16;
     }
-    if task::has_id(tasks, count, task.id) {
+    if task_rules::has_id(tasks, count, task.id) {
         return 40;
     }
     if count == 16 {

@@ -13,7 +13,7 @@ fn calibrate(m: Machine, journal: &mut [u32], answers: &[u16]) -> Machine
     ensures { λ r. ⌜ r .taken ≤ length (now (answers .entry)) ⌝ }
 {
     let m = m.store(journal, 20, 0x3fff);
-    let m = m.store(journal, 18, head::word(0, 3, 3));
+    let m = m.store(journal, 18, register::word(0, 3, 3));
     trim_search::search(m, journal, answers)
 }
 

@@ -34,11 +34,13 @@ use Rattle.measurement.specs.Measurement.{measurement, difference, judged}
 use Rattle.trim_search.specs.Search.{nextTrim, adjusted, search}
 use Rattle.calibration.specs.Calibration.{calibrate, calibrateHrc48}
 use Rattle.plan_code.specs.Code.{settled, coded, dllOf}
-use Rattle.plan.specs.Plan.{recordRefusal, planOf, decoded, encoded, legal, defaultRecord}
+use Rattle.plan.specs.Plan.{encoded, legal}
+use Rattle.plan_record.specs.Record.{recordRefusal, planOf, decoded, defaultRecord}
 use Rattle.plan_clocks.specs.Clocks.{sysHz, hclkHz, pclk1Hz, pclk2Hz, usbHz, usbDivider, targetOf}
 use Rattle.plan_sources.specs.Sources.{coreOnAbsentDll1, coreOnDbl96, flashOnAbsentDll, usbOnAbsentDll2}
 use Rattle.plan_limits.specs.Limits.{usbNot60, dll1CoreTooSlow, hclkTooFast, pclk1TooFast, pclk2TooFast, dll2TooFast}
-use Rattle.verdict.specs.Verdict.{planRefusal, verdictOf, verdict, numberOf}
+use Rattle.plan_tests.specs.Tests.{planRefusal}
+use Rattle.verdict.specs.Verdict.{verdictOf, verdict, numberOf}
 
 -- the number that the plan check answers
 abbrev number : List ℕ → ℕ

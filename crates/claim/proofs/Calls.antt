@@ -13,11 +13,12 @@ use Rattle.record.proofs.Bytes.{or-left, or-right}
 use Rattle.record.specs.Refusals.{refuse, firstOf}
 use Rattle.record.proofs.Refusals.{none-at, not-refused, not-refused-unless, only-test, first-passes, first-append}
 use Rattle.plan.specs.declared.Plan.{Plan}
-use Rattle.plan.specs.declared.Decoded.{Decoded}
-use Rattle.plan.specs.declared.Decoded.the-variants.{Read, Unread}
-use Rattle.plan.specs.Plan.{planOf, recordRefusal, decoded}
+use Rattle.plan_record.specs.declared.Decoded.{Decoded}
+use Rattle.plan_record.specs.declared.Decoded.the-variants.{Read, Unread}
+use Rattle.plan_record.specs.Record.{planOf, recordRefusal, decoded}
 use Rattle.plan_clocks.specs.Clocks.{hclkHz}
-use Rattle.verdict.specs.Verdict.{planRefusal, verdictOf, judged, verdict, numberOf}
+use Rattle.plan_tests.specs.Tests.{planRefusal}
+use Rattle.verdict.specs.Verdict.{verdictOf, judged, verdict, numberOf}
 use Rattle.verdict.proofs.Passed.{Passed, number-is}
 use Rattle.verdict.proofs.Passed as verdicts
 use Rattle.task.specs.declared.Task.{Task}

@@ -10,11 +10,13 @@ use Rattle.record.specs.Refusals.{firstOf}
 use Rattle.record.specs.Items.{items, joined}
 use Rattle.clock.specs.Clock.{dllHz, divided, shifted}
 use Rattle.plan_code.specs.Code.{settled, coded, dllOf}
-use Rattle.plan.specs.Plan.{recordRefusal, planOf, decoded, encoded, legal, defaultRecord}
+use Rattle.plan.specs.Plan.{encoded, legal}
+use Rattle.plan_record.specs.Record.{recordRefusal, planOf, decoded, defaultRecord}
 use Rattle.plan_clocks.specs.Clocks.{sysHz, hclkHz, pclk1Hz, pclk2Hz, usbHz, usbDivider, targetOf}
 use Rattle.plan_sources.specs.Sources.{coreOnAbsentDll1, coreOnDbl96, flashOnAbsentDll, usbOnAbsentDll2}
 use Rattle.plan_limits.specs.Limits.{usbNot60, dll1CoreTooSlow, hclkTooFast, pclk1TooFast, pclk2TooFast, dll2TooFast}
-use Rattle.verdict.specs.Verdict.{planRefusal, verdictOf, verdict}
+use Rattle.plan_tests.specs.Tests.{planRefusal}
+use Rattle.verdict.specs.Verdict.{verdictOf, verdict}
 use Rattle.register.specs.Word.{wordIn, wordBytes}
 use Rattle.register.specs.Codes.{largest}
 use Rattle.register_bytes.specs.Registers.{registersIn}
@@ -36,7 +38,7 @@ use Rattle.hpsys_switch.specs.HpsysSwitch.{d2sFirst, s2dFirst, s2dSecond}
 use Rattle.rail.specs.Rail.{met, higher, railLimit}
 use Rattle.fit.specs.Fit.{lit, fits}
 use Rattle.dll.specs.Dll.{hpbgOn, vddpswOn, dllOff, dllOn, relocked, setDll, configureDll}
-use Rattle.core_clock.specs.CoreClock.{dividers}
+use Rattle.core_dividers.specs.Dividers.{dividers}
 use Rattle.guard_peak.specs.Peak.{modeAt, highest, peakOf}
 use Rattle.guard_supply.specs.Supply.{raise}
 use Rattle.guard_steps.specs.Steps.{leaveDll1, toHxt48, toPlanned, backTo}

@@ -7,7 +7,7 @@ use mathlib.Core.List.{List, [], _∷_, _++_}
 use lib.Dec.{eqb}
 use lib.ListN.{take}
 use Rattle.record.specs.Bytes.{Bytes}
-use Rattle.plan.specs.Plan.{planOf}
+use Rattle.plan_record.specs.Record.{planOf}
 use Rattle.plan_clocks.specs.Clocks.{hclkHz}
 use Rattle.register.specs.Word.{byteB, byteC}
 use Rattle.task.specs.declared.Task.{Task}

@@ -1,9 +1,8 @@
-// rcc/clock.rs: clock constants, DLL and divider arithmetic, and the frequencies of a head.
+// rcc/clock.rs: clock constants, DLL and divider arithmetic.
 ghost use mathlib.Core.Path.{_≡_};
 ghost use Prim.Native.Nat.{_≤_};
 ghost use Rattle.clock.specs.Clock.{dllHz, divided, shifted};
 use time::Hertz;
-use time::MaybeHertz;
 
 pub const CLK_LRC10_FREQ: Hertz = Hertz(100_000);
 
@@ -59,43 +58,4 @@ pub fn prescale(f: Hertz, exponent: u8) -> Hertz
         return Hertz(0);
     }
     Hertz(hertz >> (exponent as u32))
-}
-
-// The 15 frequencies of a head, in the order of the source.
-pub struct Clocks {
-    pub sysclk: MaybeHertz,
-    pub hclk: MaybeHertz,
-    pub pclk: MaybeHertz,
-    pub pclk2: MaybeHertz,
-    pub dll1: MaybeHertz,
-    pub dll2: MaybeHertz,
-    pub clk_peri: MaybeHertz,
-    pub clk_peri_div2: MaybeHertz,
-    pub clk_usb: MaybeHertz,
-    pub clk_wdt: MaybeHertz,
-    pub clk_rtc: MaybeHertz,
-    pub clk_mpi1: MaybeHertz,
-    pub clk_mpi2: MaybeHertz,
-    pub clk_aud_pll: MaybeHertz,
-    pub clk_aud_pll_div16: MaybeHertz,
-}
-
-impl Clocks {
-    pub const ZERO: Clocks = Clocks {
-        sysclk: MaybeHertz::NONE,
-        hclk: MaybeHertz::NONE,
-        pclk: MaybeHertz::NONE,
-        pclk2: MaybeHertz::NONE,
-        dll1: MaybeHertz::NONE,
-        dll2: MaybeHertz::NONE,
-        clk_peri: MaybeHertz::NONE,
-        clk_peri_div2: MaybeHertz::NONE,
-        clk_usb: MaybeHertz::NONE,
-        clk_wdt: MaybeHertz::NONE,
-        clk_rtc: MaybeHertz::NONE,
-        clk_mpi1: MaybeHertz::NONE,
-        clk_mpi2: MaybeHertz::NONE,
-        clk_aud_pll: MaybeHertz::NONE,
-        clk_aud_pll_div16: MaybeHertz::NONE,
-    };
 }

@@ -5,15 +5,9 @@ use mathlib.Core.List.{List}
 use lib.Dec.{eqb}
 use Rattle.plan.specs.declared.Plan.{Plan}
 use Rattle.journal.specs.Run.{Run, Effect, idle, _▸_}
-use Rattle.core_clock.specs.CoreClock.{dividers}
-use Rattle.clock_switch.specs.Switch.{toPlan}
 use Rattle.init_begin.specs.Begin.{initBegin}
 use Rattle.init_first.specs.First.{bootStores, calibrating, warning, initFirst}
-use Rattle.init_rest.specs.Rest.{initRest}
-
--- the plan's dividers first, the core clock, then the rest
-unfoldable pub initClock : Plan → List ℕ → Effect
-initClock p a = dividers p ▸ toPlan p a ▸ initRest p a
+use Rattle.init_core.specs.Core.{initClock}
 
 -- all of it but for what every boot does
 unfoldable pub boot : Plan → List ℕ → Effect

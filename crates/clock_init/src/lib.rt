@@ -8,27 +8,12 @@ ghost use Rattle.plan_clocks.specs.Clocks.{targetOf};
 ghost use Rattle.journal.specs.Run.{_▸_};
 ghost use Rattle.journal.specs.Machine.{Ran, Ready, Kept};
 ghost use Rattle.init_first.specs.First.{bootStores, calibrating, Warned};
-ghost use Rattle.clock_init.specs.Init.{initClock, boot, init};
+ghost use Rattle.clock_init.specs.Init.{boot, init};
 ghost use Rattle.clock_init.specs.Told.{Told};
 use init_first::Calibrated;
 use journal::Machine;
 use plan::Plan;
 use plan_clocks::Target;
-
-fn init_clock(m: Machine, journal: &mut [u32], answers: &[u16], p: Plan, target: Target) -> Machine
-    requires { ⌜ Ready 30 m (now journal) ⌝ }
-    requires { ⌜ (m .taken ≤ length (now answers)) × (length (now answers) ≤ 4096) ⌝ }
-    requires { ⌜ (legal p ≡ true) × ((target ≡ targetOf p) × (target .«usb_div» ≤ 7)) ⌝ }
-    ensures { λ r. ⌜ Ran (initClock p (now (answers .entry))) m r (now (journal .entry)) (now (journal .exit)) ⌝ }
-    ensures { λ r. ⌜ Kept 30 m r ⌝ }
-    ensures { λ r. ⌜ r .taken ≤ length (now (answers .entry)) ⌝ }
-{
-    let hclk = target.hclk;
-    let usb_div = target.usb_div;
-    let m = core_clock::apply_dividers(m, journal, p);
-    let m = clock_switch::config_hcpu_dvfs(m, journal, answers, p, hclk);
-    init_rest::init_rest(m, journal, answers, p, usb_div)
-}
 
 fn boot(m: Machine, journal: &mut [u32], answers: &[u16], p: Plan, target: Target) -> Calibrated
     requires { ⌜ Ready 91 m (now journal) ⌝ }
@@ -40,7 +25,7 @@ fn boot(m: Machine, journal: &mut [u32], answers: &[u16], p: Plan, target: Targe
 {
     let first = init_first::init_first(m, journal, answers, p);
     let m = first.machine;
-    let machine = init_clock(m, journal, answers, p, target);
+    let machine = init_core::init_clock(m, journal, answers, p, target);
     Calibrated {
         machine,
         warning: first.warning,

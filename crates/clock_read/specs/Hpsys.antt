@@ -1,11 +1,11 @@
--- Frequencies of HPSYS read from a head, up to the core and its buses: rcc/clock_read.rs. Assumes nothing.
+-- Frequencies of HPSYS read from a head, up to HCLK: rcc/clock_read.rs. Assumes nothing.
 use Prim.Native.Nat.{ℕ}
 use mathlib.Core.Bool.{Bool, cond}
 use lib.Dec.{eqb}
 use lib.ListN.{getD}
 use Rattle.time.specs.declared.Reading.{Reading}
 use Rattle.time.specs.declared.Reading.the-variants.{At, Unreadable}
-use Rattle.clock.specs.Clock.{dllHz, divided, shifted}
+use Rattle.clock.specs.Clock.{dllHz, divided}
 use Rattle.head.specs.declared.Head.{Head}
 use Rattle.register.specs.Word.{byteA, byteB, byteC}
 
@@ -25,14 +25,10 @@ readyReading ready = cond ready (hertz 48000000) Unreadable
 unfoldable pub dllReading : ℕ → Reading
 dllReading word = cond (eqb (byteA word) 1) (hertz (dllHz (byteC word) (eqb (byteB word) 1))) Unreadable
 
--- a frequency behind a divider, and behind a prescaler; none where there is none
+-- a frequency behind a divider; none where there is none
 abbrev pub dividedReading : Reading → ℕ → Reading
 dividedReading (At f) d = hertz (divided (f .0) d)
 dividedReading Unreadable d = Unreadable
-
-abbrev pub shiftedReading : Reading → ℕ → Reading
-shiftedReading (At f) e = hertz (shifted (f .0) e)
-shiftedReading Unreadable e = Unreadable
 
 -- `get_clk_sys_freq`: 0 HRC48, 1 HXT48, 3 DLL1; "DBL96 reads as none"
 unfoldable pub sysOf : Head → Reading
@@ -45,10 +41,3 @@ sysOf h =
 -- `get_hclk_freq`: hdiv a of register 2
 unfoldable pub hclkOf : Head → Reading
 hclkOf h = dividedReading (sysOf h) (byteA (reg h 2))
-
--- `get_pclk_freq` and `get_pclk2_freq`: pdiv1 b, pdiv2 c
-unfoldable pub pclkOf : Head → Reading
-pclkOf h = shiftedReading (hclkOf h) (byteB (reg h 2))
-
-unfoldable pub pclk2Of : Head → Reading
-pclk2Of h = shiftedReading (hclkOf h) (byteC (reg h 2))

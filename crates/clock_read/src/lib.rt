@@ -1,19 +1,9 @@
-// rcc/clock_read.rs: frequencies of HPSYS read from a head, up to the core and its buses.
+// rcc/clock_read.rs: frequencies of HPSYS read from a head, up to HCLK.
 ghost use mathlib.Core.Path.{_≡_};
 ghost use Prim.Native.Nat.{_≤_};
 ghost use Rattle.register.specs.Word.{byteC};
 ghost use Rattle.head.specs.Encodable.{Encodable};
-ghost use Rattle.clock_read.specs.Hpsys.{
-  reg,
-  readyReading,
-  dllReading,
-  dividedReading,
-  shiftedReading,
-  sysOf,
-  hclkOf,
-  pclkOf,
-  pclk2Of,
-};
+ghost use Rattle.clock_read.specs.Hpsys.{reg, readyReading, dllReading, dividedReading, sysOf, hclkOf};
 use clock::Dll;
 use head::Head;
 use time::Reading;
@@ -30,16 +20,16 @@ pub fn ready_freq(ready: bool) -> Reading
 }
 
 // A DLL by its register.
-fn dll_freq(word: u32) -> Reading
+pub fn dll_freq(word: u32) -> Reading
     requires { ⌜ byteC word ≤ 15 ⌝ }
     ensures { λ r. ⌜ r ≡ dllReading word ⌝ }
 {
-    if head::a(word) != 1 {
+    if register::a(word) != 1 {
         return Reading::Unreadable;
     }
     let dll = Dll {
-        stage: head::c(word) as u8,
-        half: head::b(word) == 1,
+        stage: register::c(word) as u8,
+        half: register::b(word) == 1,
     };
     Reading::At(dll.freq_hz())
 }
@@ -51,29 +41,6 @@ pub fn divide(f: Reading, divider: u8) -> Reading
         return Reading::Unreadable;
     };
     Reading::At(clock::divide(f, divider))
-}
-
-pub fn prescale(f: Reading, exponent: u8) -> Reading
-    ensures { λ r. ⌜ r ≡ shiftedReading f exponent ⌝ }
-{
-    let Reading::At(f) = f else {
-        return Reading::Unreadable;
-    };
-    Reading::At(clock::prescale(f, exponent))
-}
-
-pub fn get_clk_dll1_freq(h: Head) -> Reading
-    requires { ⌜ Encodable h ⌝ }
-    ensures { λ r. ⌜ r ≡ dllReading (reg h 3) ⌝ }
-{
-    dll_freq(h.regs[3])
-}
-
-pub fn get_clk_dll2_freq(h: Head) -> Reading
-    requires { ⌜ Encodable h ⌝ }
-    ensures { λ r. ⌜ r ≡ dllReading (reg h 4) ⌝ }
-{
-    dll_freq(h.regs[4])
 }
 
 pub fn get_clk_sys_freq(h: Head) -> Reading
@@ -88,7 +55,7 @@ pub fn get_clk_sys_freq(h: Head) -> Reading
         return ready_freq(h.hxt48_ready);
     }
     if select == 3 {
-        return get_clk_dll1_freq(h);
+        return dll_freq(h.regs[3]);
     }
     Reading::Unreadable
 }
@@ -97,22 +64,6 @@ pub fn get_hclk_freq(h: Head) -> Reading
     requires { ⌜ Encodable h ⌝ }
     ensures { λ r. ⌜ r ≡ hclkOf h ⌝ }
 {
-    let hdiv = head::a(h.regs[2]) as u8;
+    let hdiv = register::a(h.regs[2]) as u8;
     divide(get_clk_sys_freq(h), hdiv)
-}
-
-pub fn get_pclk_freq(h: Head) -> Reading
-    requires { ⌜ Encodable h ⌝ }
-    ensures { λ r. ⌜ r ≡ pclkOf h ⌝ }
-{
-    let pdiv1 = head::b(h.regs[2]) as u8;
-    prescale(get_hclk_freq(h), pdiv1)
-}
-
-pub fn get_pclk2_freq(h: Head) -> Reading
-    requires { ⌜ Encodable h ⌝ }
-    ensures { λ r. ⌜ r ≡ pclk2Of h ⌝ }
-{
-    let pdiv2 = head::c(h.regs[2]) as u8;
-    prescale(get_hclk_freq(h), pdiv2)
 }

@@ -6,10 +6,10 @@ use lib.Dec.{eqb}
 use Rattle.clock.specs.declared.MaybeDll.{MaybeDll}
 use Rattle.clock.specs.declared.MaybeDll.the-variants.{Absent, Present}
 use Rattle.plan.specs.declared.Plan.{Plan}
-use Rattle.register.specs.Word.{wordOf}
 use Rattle.register.specs.Word.{bit}
 use Rattle.clock_read.specs.Hpsys.{reg}
 use Rattle.journal.specs.Run.{Effect, idle, _▸_, store}
+use Rattle.core_dividers.specs.Dividers.{dividers}
 use Rattle.dll.specs.Dll.{configureDll}
 
 -- `switch_away_from_dll1`: a core on DLL1 (3) goes to HXT48 (1) where that is ready, else to HRC48 (0)
@@ -20,10 +20,6 @@ switchAway r = cond (eqb (reg (r .head) 1) 3) (store 1 (bit (r .head .«hxt48_re
 abbrev pub plannedDll1 : MaybeDll → List ℕ → Effect
 plannedDll1 Absent a = idle
 plannedDll1 (Present d) a = configureDll 3 d a
-
--- the plan's dividers
-unfoldable pub dividers : Plan → Effect
-dividers p = store 2 (wordOf (p .hdiv) (p .pdiv1) (p .pdiv2))
 
 -- `apply_dividers_and_sysclk`
 unfoldable pub dividersAndSysclk : Plan → Effect

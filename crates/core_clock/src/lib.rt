@@ -3,12 +3,10 @@ ghost use mathlib.Core.Path.{_≡_};
 ghost use mathlib.Core.Bool.{true};
 ghost use Prim.Native.Nat.{_≤_};
 ghost use lib.ListN.{length};
-ghost use Rattle.plan_code.specs.Code.{stageOf};
+ghost use Rattle.plan.specs.Code.{stageOf};
 ghost use Rattle.plan.specs.Plan.{legal};
-ghost use Rattle.register.specs.Word.{wordOf};
-ghost use Rattle.register.specs.Codes.{fitsRegister};
 ghost use Rattle.journal.specs.Machine.{Ran, Ready, Kept};
-ghost use Rattle.core_clock.specs.CoreClock.{switchAway, plannedDll1, dividers, dividersAndSysclk};
+ghost use Rattle.core_clock.specs.CoreClock.{switchAway, plannedDll1, dividersAndSysclk};
 use clock::MaybeDll;
 use journal::Machine;
 use plan::Plan;
@@ -46,27 +44,6 @@ pub fn configure_dll1(m: Machine, journal: &mut [u32], answers: &[u16], dll1: Ma
     dll::configure_dll(m, journal, answers, 3, d)
 }
 
-fn dividers_word(p: Plan) -> u32
-    requires { ⌜ legal p ≡ true ⌝ }
-    ensures { λ r. ⌜ (r ≡ wordOf (p .hdiv) (p .pdiv1) (p .pdiv2)) × (fitsRegister 2 r ≡ true) ⌝ }
-{
-    let hdiv = p.hdiv;
-    let pdiv1 = p.pdiv1;
-    let pdiv2 = p.pdiv2;
-    head::word(hdiv as u32, pdiv1 as u32, pdiv2 as u32)
-}
-
-pub fn apply_dividers(m: Machine, journal: &mut [u32], p: Plan) -> Machine
-    requires { ⌜ Ready 1 m (now journal) ⌝ }
-    requires { ⌜ legal p ≡ true ⌝ }
-    ensures { λ r. ⌜ Ran (dividers p) m r (now (journal .entry)) (now (journal .exit)) ⌝ }
-    ensures { λ r. ⌜ Kept 1 m r ⌝ }
-    ensures { λ r. ⌜ r .taken ≡ m .taken ⌝ }
-{
-    let word = dividers_word(p);
-    m.store(journal, 2, word)
-}
-
 pub fn apply_dividers_and_sysclk(m: Machine, journal: &mut [u32], p: Plan) -> Machine
     requires { ⌜ Ready 2 m (now journal) ⌝ }
     requires { ⌜ legal p ≡ true ⌝ }
@@ -75,6 +52,6 @@ pub fn apply_dividers_and_sysclk(m: Machine, journal: &mut [u32], p: Plan) -> Ma
     ensures { λ r. ⌜ r .taken ≡ m .taken ⌝ }
 {
     let sys = p.sys;
-    let m = apply_dividers(m, journal, p);
+    let m = core_dividers::apply_dividers(m, journal, p);
     m.store(journal, 1, sys as u32)
 }

@@ -1,11 +1,25 @@
-// rcc/clock_read.rs: the frequencies of USB, the watchdog and flash, read from a head.
+// rcc/clock_read.rs: the frequencies of the DLLs, USB, the watchdog and flash, read from a head.
 ghost use mathlib.Core.Path.{_≡_};
 ghost use Rattle.register.specs.Word.{byteB, byteC};
 ghost use Rattle.head.specs.Encodable.{Encodable};
-ghost use Rattle.clock_read.specs.Hpsys.{reg};
+ghost use Rattle.clock_read.specs.Hpsys.{reg, dllReading};
 ghost use Rattle.device_read.specs.Devices.{usbSource, usbOf, wdtOf, flashOf};
 use head::Head;
 use time::Reading;
+
+pub fn get_clk_dll1_freq(h: Head) -> Reading
+    requires { ⌜ Encodable h ⌝ }
+    ensures { λ r. ⌜ r ≡ dllReading (reg h 3) ⌝ }
+{
+    clock_read::dll_freq(h.regs[3])
+}
+
+pub fn get_clk_dll2_freq(h: Head) -> Reading
+    requires { ⌜ Encodable h ⌝ }
+    ensures { λ r. ⌜ r ≡ dllReading (reg h 4) ⌝ }
+{
+    clock_read::dll_freq(h.regs[4])
+}
 
 fn usb_source(h: Head) -> Reading
     requires { ⌜ Encodable h ⌝ }
@@ -13,7 +27,7 @@ fn usb_source(h: Head) -> Reading
 {
     let source = h.regs[7];
     if source == 1 {
-        return clock_read::get_clk_dll2_freq(h);
+        return get_clk_dll2_freq(h);
     }
     clock_read::get_clk_sys_freq(h)
 }
@@ -22,7 +36,7 @@ pub fn get_clk_usb_freq(h: Head) -> Reading
     requires { ⌜ Encodable h ⌝ }
     ensures { λ r. ⌜ r ≡ usbOf h ⌝ }
 {
-    let divider = head::c(h.regs[8]) as u8;
+    let divider = register::c(h.regs[8]) as u8;
     clock_read::divide(usb_source(h), divider)
 }
 
@@ -43,10 +57,10 @@ fn flash_freq(select: u32, h: Head) -> Reading
     ensures { λ r. ⌜ r ≡ flashOf select h ⌝ }
 {
     if select == 1 {
-        return clock_read::get_clk_dll1_freq(h);
+        return get_clk_dll1_freq(h);
     }
     if select == 2 {
-        return clock_read::get_clk_dll2_freq(h);
+        return get_clk_dll2_freq(h);
     }
     Reading::At(clock::CLK_HXT48_FREQ)
 }
@@ -55,12 +69,12 @@ pub fn get_clk_mpi1_freq(h: Head) -> Reading
     requires { ⌜ Encodable h ⌝ }
     ensures { λ r. ⌜ r ≡ flashOf (byteB (reg h 5)) h ⌝ }
 {
-    flash_freq(head::b(h.regs[5]), h)
+    flash_freq(register::b(h.regs[5]), h)
 }
 
 pub fn get_clk_mpi2_freq(h: Head) -> Reading
     requires { ⌜ Encodable h ⌝ }
     ensures { λ r. ⌜ r ≡ flashOf (byteC (reg h 5)) h ⌝ }
 {
-    flash_freq(head::c(h.regs[5]), h)
+    flash_freq(register::c(h.regs[5]), h)
 }

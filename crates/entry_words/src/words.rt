@@ -25,17 +25,17 @@ fn put_core(select: u32, line: &mut Line, at: usize) -> usize {
 }
 
 fn put_dividers(value: u32, line: &mut Line, at: usize) -> usize {
-    let at = put_level(b"hdiv ", head::a(value), line, at);
-    let at = put_level(b", pdiv1 ", head::b(value), line, at);
-    put_level(b", pdiv2 ", head::c(value), line, at)
+    let at = put_level(b"hdiv ", register::a(value), line, at);
+    let at = put_level(b", pdiv1 ", register::b(value), line, at);
+    put_level(b", pdiv2 ", register::c(value), line, at)
 }
 
 fn put_dll1(value: u32, line: &mut Line, at: usize) -> usize {
-    if head::a(value) == 0 {
+    if register::a(value) == 0 {
         return put(b"DLL1 off", line, at);
     }
-    let at = put_level(b"DLL1 on, stage ", head::c(value), line, at);
-    if head::b(value) == 0 {
+    let at = put_level(b"DLL1 on, stage ", register::c(value), line, at);
+    if register::b(value) == 0 {
         return at;
     }
     put(b", halved", line, at)
@@ -53,13 +53,13 @@ pub fn put_source(select: u32, line: &mut Line, at: usize) -> usize {
 
 fn put_flash(value: u32, line: &mut Line, at: usize) -> usize {
     let at = put(b"flash ", line, at);
-    let at = put_source(head::b(value), line, at);
+    let at = put_source(register::b(value), line, at);
     let at = put(b", ", line, at);
-    put_source(head::c(value), line, at)
+    put_source(register::c(value), line, at)
 }
 
 fn put_bandgap(value: u32, line: &mut Line, at: usize) -> usize {
-    if head::c(value) == 0 {
+    if register::c(value) == 0 {
         return put(b"bandgap on", line, at);
     }
     put(b"bandgap and vddpsw on", line, at)
@@ -80,7 +80,7 @@ fn put_delay(cycles: u32, line: &mut Line, at: usize) -> usize {
 // What was waited for, and the answers that it took.
 fn put_wait(value: u32, line: &mut Line, at: usize) -> usize {
     let at = put(b"wait ", line, at);
-    let at = put_awaited(head::a(value), line, at);
+    let at = put_awaited(register::a(value), line, at);
     let at = put_level(b", ", value % 65536, line, at);
     put(b" answers", line, at)
 }

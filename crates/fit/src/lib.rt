@@ -12,10 +12,10 @@ fn is_lit(select: u32, dll1: u32, dll2: u32) -> bool
     ensures { λ r. ⌜ r ≡ lit select dll1 dll2 ⌝ }
 {
     if select == 1 {
-        return head::a(dll1) == 1;
+        return register::a(dll1) == 1;
     }
     if select == 2 {
-        return head::a(dll2) == 1;
+        return register::a(dll2) == 1;
     }
     true
 }
@@ -45,10 +45,10 @@ pub fn is_fit(h: Head) -> bool
         return false;
     }
     let regs = h.regs;
-    if !is_lit(head::b(regs[5]), regs[3], regs[4]) {
+    if !is_lit(register::b(regs[5]), regs[3], regs[4]) {
         return false;
     }
-    if !is_lit(head::c(regs[5]), regs[3], regs[4]) {
+    if !is_lit(register::c(regs[5]), regs[3], regs[4]) {
         return false;
     }
     is_lpsys_fit(h)

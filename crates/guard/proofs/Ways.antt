@@ -5,7 +5,7 @@ use mathlib.Core.List.{List, [], _∷_, _++_}
 use Rattle.record.specs.Refusals.{firstOf}
 use Rattle.record.proofs.Refusals.{only-test, first-refuses, first-passes}
 use Rattle.plan.specs.declared.Plan.{Plan}
-use Rattle.plan.specs.Plan.{planOf}
+use Rattle.plan_record.specs.Record.{planOf}
 use Rattle.verdict.specs.Verdict.{verdict, numberOf}
 use Rattle.planned.specs.declared.Planned.{Planned}
 use Rattle.planned.specs.Planned.{Plans}

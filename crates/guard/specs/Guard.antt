@@ -2,7 +2,7 @@
 use Prim.Native.Nat.{ℕ}
 use mathlib.Core.List.{List, _∷_, _++_}
 use Rattle.record.specs.Refusals.{firstOf}
-use Rattle.plan.specs.Plan.{planOf}
+use Rattle.plan_record.specs.Record.{planOf}
 use Rattle.verdict.specs.Verdict.{verdict, numberOf}
 use Rattle.head_record.specs.Record.{headOf}
 use Rattle.call.specs.Call.{Result, answersTests, performed}

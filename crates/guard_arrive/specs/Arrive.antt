@@ -3,7 +3,7 @@ use Prim.Native.Nat.{ℕ}
 use Rattle.plan.specs.declared.Plan.{Plan}
 use Rattle.plan_clocks.specs.Clocks.{hclkHz}
 use Rattle.journal.specs.Run.{Effect, _▸_}
-use Rattle.core_clock.specs.CoreClock.{dividers}
+use Rattle.core_dividers.specs.Dividers.{dividers}
 use Rattle.guard_peak.specs.Peak.{modeAt}
 use Rattle.guard_supply.specs.Supply.{settle}
 use Rattle.guard_steps.specs.Steps.{toPlanned, backTo}

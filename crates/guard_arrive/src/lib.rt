@@ -20,7 +20,7 @@ pub fn arrive(m: Machine, journal: &mut [u32], p: Plan, selects: u32, target: He
     ensures { λ r. ⌜ r .taken ≡ m .taken ⌝ }
 {
     let mode = guard_peak::mode_at(target);
-    let m = core_clock::apply_dividers(m, journal, p);
+    let m = core_dividers::apply_dividers(m, journal, p);
     let m = guard_steps::to_planned(m, journal, p);
     let m = guard_steps::back_to(m, journal, selects);
     guard_supply::settle(m, journal, mode)

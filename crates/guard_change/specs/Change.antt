@@ -7,7 +7,8 @@ use Rattle.plan_clocks.specs.Clocks.{hclkHz}
 use Rattle.clock_read.specs.Hpsys.{reg, hclkOf}
 use Rattle.journal.specs.Run.{Effect, _▸_}
 use Rattle.dvfs.specs.declared.hpsys.HpsysDvfsMode.{HpsysDvfsMode}
-use Rattle.core_clock.specs.CoreClock.{plannedDll1, dividers}
+use Rattle.core_dividers.specs.Dividers.{dividers}
+use Rattle.core_clock.specs.CoreClock.{plannedDll1}
 use Rattle.guard_peak.specs.Peak.{modeAt, peakOf}
 use Rattle.guard_supply.specs.Supply.{raise, settle}
 use Rattle.guard_steps.specs.Steps.{leaveDll1, toHxt48, toPlanned, backTo}

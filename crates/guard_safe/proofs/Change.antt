@@ -15,7 +15,8 @@ use Rattle.journal.specs.Run.{Run, begin}
 use Rattle.journal.proofs.Moments.{Moments, moments-begin, moments-now}
 use Rattle.dvfs.specs.declared.hpsys.HpsysDvfsMode.{HpsysDvfsMode}
 use Rattle.rail.specs.Rail.{limitHz}
-use Rattle.core_clock.specs.CoreClock.{plannedDll1, dividers}
+use Rattle.core_dividers.specs.Dividers.{dividers}
+use Rattle.core_clock.specs.CoreClock.{plannedDll1}
 use Rattle.guard_peak.specs.Peak.{modeAt, peakOf}
 use Rattle.guard_supply.specs.Supply.{raise}
 use Rattle.guard_steps.specs.Steps.{leaveDll1, toHxt48, toPlanned, backTo}

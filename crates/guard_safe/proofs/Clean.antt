@@ -17,7 +17,7 @@ use Rattle.clock.specs.declared.MaybeDll.{MaybeDll}
 use Rattle.clock.specs.declared.MaybeDll.the-variants.{Absent, Present}
 use Rattle.clock.specs.Clock.{dllHz, divided}
 use Rattle.clock.proofs.Laws.{dll-least, dll-most, divided-least}
-use Rattle.plan_code.specs.Code.{largest}
+use Rattle.plan.specs.Code.{largest}
 use Rattle.plan.specs.declared.Plan.{Plan}
 use Rattle.plan.specs.Plan.{encoded, legal}
 use Rattle.plan_clocks.specs.Clocks.{maybeHz, sysHz, hclkHz}

@@ -28,11 +28,14 @@ use Rattle.clock_read.proofs.Codes.{byte-most}
 use Rattle.fit.specs.Fit.{lit}
 use Rattle.journal.specs.Run.{Run, idle, store, delay, Poll, hit, dry, more, poll}
 use Rattle.dll.specs.Dll.{hpbgOn, vddpswOn, dllOff, dllOn, relocked, setDll, configureDll}
-use Rattle.dll.proofs.Fits.{dll-fits, dll-codes, hpbg-fits, vddpsw-fits}
-use Rattle.core_clock.proofs.Fits.{dividers-fit, select-fits, sys-fits}
-use Rattle.core_clock.specs.CoreClock.{plannedDll1, dividers}
+use Rattle.dll_words.proofs.Fits.{dll-fits, dll-codes}
+use Rattle.dll.proofs.Fits.{hpbg-fits, vddpsw-fits}
+use Rattle.core_dividers.proofs.Fits.{dividers-fit, select-fits, sys-fits}
+use Rattle.core_dividers.specs.Dividers.{dividers}
+use Rattle.core_clock.specs.CoreClock.{plannedDll1}
 use Rattle.guard_peak.specs.Peak.{modeAt}
-use Rattle.guard_steps.specs.Steps.{onDll1, away, moved, leaveDll1, toHxt48, toPlanned, backTo}
+use Rattle.flash_moves.specs.Selects.{onDll1, away, moved}
+use Rattle.guard_steps.specs.Steps.{leaveDll1, toHxt48, toPlanned, backTo}
 use Rattle.rail.specs.Rail.{limitHz}
 use Rattle.guard_safe.specs.Moment.{Ready, oneReady, stopFor, takenFor}
 use Rattle.guard_safe.proofs.Clean.{apart, Coded, codes-of, target-clock}

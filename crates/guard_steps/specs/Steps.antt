@@ -1,22 +1,12 @@
 -- The steps of the guarded change that move the flash selects and the core's, document 01's (2), (3), (6) and (7), each as an effect on a
 -- running call. Assumes nothing.
 use Prim.Native.Nat.{ℕ}
-use mathlib.Core.Bool.{Bool, cond, _||_}
+use mathlib.Core.Bool.{cond}
 use lib.Dec.{eqb}
 use Rattle.plan.specs.declared.Plan.{Plan}
-use Rattle.register.specs.Word.{wordOf, byteB, byteC}
+use Rattle.flash_moves.specs.Selects.{onDll1, moved}
 use Rattle.clock_read.specs.Hpsys.{reg}
 use Rattle.journal.specs.Run.{Effect, idle, store}
-
--- a word of flash selects, b and c, of which one is on DLL1; and the word with Peri in their place
-abbrev pub onDll1 : ℕ → Bool
-onDll1 w = eqb (byteB w) 1 || eqb (byteC w) 1
-
-abbrev pub away : ℕ → ℕ
-away select = cond (eqb select 1) 0 select
-
-abbrev pub moved : ℕ → ℕ
-moved w = wordOf 0 (away (byteB w)) (away (byteC w))
 
 -- "(2) flash selects on DLL1 go to Peri, one store, if any"
 unfoldable pub leaveDll1 : Effect

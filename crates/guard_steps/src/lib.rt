@@ -1,47 +1,14 @@
 // The steps of the guarded change that move the flash selects and the core's.
 ghost use mathlib.Core.Path.{_≡_};
 ghost use mathlib.Core.Bool.{true};
-ghost use Prim.Native.Nat.{_<_};
 ghost use Rattle.plan.specs.Plan.{legal};
 ghost use Rattle.register.specs.Codes.{fitsRegister};
 ghost use Rattle.journal.specs.Machine.{Ran, Ready, Kept};
-ghost use Rattle.guard_steps.specs.Steps.{onDll1, away, moved, leaveDll1, toHxt48, toPlanned, backTo};
+ghost use Rattle.guard_steps.specs.Steps.{leaveDll1, toHxt48, toPlanned, backTo};
 use journal::Machine;
 use plan::Plan;
 
-const DLL1: u32 = 1;
-
 const HXT48: u32 = 1;
-
-// Whether one of the flash selects is on DLL1.
-fn is_on_dll1(selects: u32) -> bool
-    ensures { λ r. ⌜ r ≡ onDll1 selects ⌝ }
-{
-    if head::b(selects) == DLL1 {
-        return true;
-    }
-    head::c(selects) == DLL1
-}
-
-// Peri in place of DLL1.
-fn away(select: u32) -> u32
-    requires { ⌜ select < 256 ⌝ }
-    ensures { λ r. ⌜ (r ≡ away select) × (r < 256) ⌝ }
-{
-    if select == DLL1 {
-        return 0;
-    }
-    select
-}
-
-fn moved(selects: u32) -> u32
-    requires { ⌜ fitsRegister 5 selects ≡ true ⌝ }
-    ensures { λ r. ⌜ (r ≡ moved selects) × (fitsRegister 5 r ≡ true) ⌝ }
-{
-    let first = away(head::b(selects));
-    let second = away(head::c(selects));
-    head::word(0, first, second)
-}
 
 // Step 2: flash selects on DLL1 go to Peri.
 pub fn leave_dll1(m: Machine, journal: &mut [u32]) -> Machine
@@ -52,8 +19,8 @@ pub fn leave_dll1(m: Machine, journal: &mut [u32]) -> Machine
 {
     let head = m.head;
     let selects = head.regs[5];
-    if is_on_dll1(selects) {
-        return m.store(journal, 5, moved(selects));
+    if flash_moves::is_on_dll1(selects) {
+        return m.store(journal, 5, flash_moves::moved(selects));
     }
     m
 }
@@ -93,7 +60,7 @@ pub fn back_to(m: Machine, journal: &mut [u32], selects: u32) -> Machine
     ensures { λ r. ⌜ Kept 1 m r ⌝ }
     ensures { λ r. ⌜ r .taken ≡ m .taken ⌝ }
 {
-    let were_moved = is_on_dll1(selects);
+    let were_moved = flash_moves::is_on_dll1(selects);
     if were_moved {
         return m.store(journal, 5, selects);
     }

@@ -1,8 +1,4 @@
 // A head as a value: 34 registers, ready flags and booked tasks.
-pub use register::a;
-pub use register::b;
-pub use register::c;
-pub use register::word;
 pub use task::Task;
 
 pub struct Head {

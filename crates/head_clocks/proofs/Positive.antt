@@ -15,9 +15,10 @@ use Rattle.head.specs.declared.Head.{Head}
 use Rattle.register.specs.Word.{wordBytes, byteA, byteB, byteC}
 use Rattle.register.specs.Codes.{largest, codesOf}
 use Rattle.head.specs.Encodable.{Encodable}
-use Rattle.clock_read.specs.Hpsys.{reg, hertz, readyReading, dllReading, dividedReading, shiftedReading, sysOf, hclkOf, pclkOf, pclk2Of}
+use Rattle.clock_read.specs.Hpsys.{reg, hertz, readyReading, dllReading, dividedReading, sysOf, hclkOf}
 use Rattle.device_read.specs.Devices.{usbSource, usbOf, wdtOf, flashOf}
-use Rattle.lpsys_read.specs.Lpsys.{sourceReading, lpsysSysOf, lpsysHclkOf, lpsysPclk1Of, lpsysPclk2Of, lpsysPeriOf, lpsysMacOf}
+use Rattle.lpsys_read.specs.Lpsys.{sourceReading, lpsysSysOf, lpsysHclkOf}
+use Rattle.bus_read.specs.Buses.{shiftedReading, pclkOf, pclk2Of, lpsysPclk1Of, lpsysPclk2Of, lpsysPeriOf, lpsysMacOf}
 use Rattle.clock_read.proofs.Codes.{byte-most}
 
 -- a reading of at least `n` Hz, or none

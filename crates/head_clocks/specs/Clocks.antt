@@ -3,14 +3,15 @@ use Prim.Native.Nat.{ℕ}
 use mathlib.Core.Bool.{cond}
 use mathlib.Core.List.{List, [], _∷_}
 use lib.Dec.{eqb}
-use Rattle.time.specs.Frequency.{maybe}
-use Rattle.clock.specs.declared.Clocks.{Clocks}
+use Rattle.clocks.specs.Maybe.{maybe}
+use Rattle.clocks.specs.declared.Clocks.{Clocks}
 use Rattle.head.specs.declared.Head.{Head}
 use Rattle.register.specs.Word.{byteB, byteC}
 use Rattle.head_record.specs.Record.{headRefusal, headOf}
-use Rattle.clock_read.specs.Hpsys.{reg, dllReading, sysOf, hclkOf, pclkOf, pclk2Of}
+use Rattle.clock_read.specs.Hpsys.{reg, dllReading, sysOf, hclkOf}
 use Rattle.device_read.specs.Devices.{usbOf, wdtOf, flashOf}
-use Rattle.lpsys_read.specs.Lpsys.{lpsysSysOf, lpsysHclkOf, lpsysPclk1Of, lpsysPclk2Of, lpsysPeriOf, lpsysMacOf}
+use Rattle.lpsys_read.specs.Lpsys.{lpsysSysOf, lpsysHclkOf}
+use Rattle.bus_read.specs.Buses.{pclkOf, pclk2Of, lpsysPclk1Of, lpsysPclk2Of, lpsysPeriOf, lpsysMacOf}
 
 -- `read_hpsys_clocks_from_hw`: the 15 frequencies of `Clocks`, 0 for none. The peripheral clock is 48 MHz from either source, its half 24,
 -- the RTC's 100,000 Hz; the audio PLL pair is none.

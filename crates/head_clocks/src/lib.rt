@@ -3,9 +3,9 @@ ghost use mathlib.Core.Path.{_≡_};
 ghost use Rattle.head_record.specs.Record.{headRefusal, headOf};
 ghost use Rattle.head.specs.Encodable.{Encodable};
 ghost use Rattle.head_clocks.specs.Clocks.{clocksOf, lpsysOf, listed, unlessRefused};
-use clock::Clocks;
+use clocks::Clocks;
+use clocks::MaybeHertz;
 use head::Head;
-use time::MaybeHertz;
 
 pub fn read_hpsys_clocks_from_hw(h: Head) -> Clocks
     requires { ⌜ Encodable h ⌝ }
@@ -14,10 +14,10 @@ pub fn read_hpsys_clocks_from_hw(h: Head) -> Clocks
     Clocks {
         sysclk: MaybeHertz::from_reading(clock_read::get_clk_sys_freq(h)),
         hclk: MaybeHertz::from_reading(clock_read::get_hclk_freq(h)),
-        pclk: MaybeHertz::from_reading(clock_read::get_pclk_freq(h)),
-        pclk2: MaybeHertz::from_reading(clock_read::get_pclk2_freq(h)),
-        dll1: MaybeHertz::from_reading(clock_read::get_clk_dll1_freq(h)),
-        dll2: MaybeHertz::from_reading(clock_read::get_clk_dll2_freq(h)),
+        pclk: MaybeHertz::from_reading(bus_read::get_pclk_freq(h)),
+        pclk2: MaybeHertz::from_reading(bus_read::get_pclk2_freq(h)),
+        dll1: MaybeHertz::from_reading(device_read::get_clk_dll1_freq(h)),
+        dll2: MaybeHertz::from_reading(device_read::get_clk_dll2_freq(h)),
         clk_peri: MaybeHertz::from_hertz(clock::CLK_HXT48_FREQ),
         clk_peri_div2: MaybeHertz(24_000_000),
         clk_usb: MaybeHertz::from_reading(device_read::get_clk_usb_freq(h)),
@@ -74,10 +74,10 @@ fn lpsys_numbers(h: Head) -> [u32; 6]
     [
         MaybeHertz::from_reading(lpsys_read::get_lpsys_sysclk_freq(h)).0,
         MaybeHertz::from_reading(lpsys_read::get_lpsys_hclk_freq(h)).0,
-        MaybeHertz::from_reading(lpsys_read::get_lpsys_pclk1_freq(h)).0,
-        MaybeHertz::from_reading(lpsys_read::get_lpsys_pclk2_freq(h)).0,
-        MaybeHertz::from_reading(lpsys_read::get_lpsys_clk_peri_freq(h)).0,
-        MaybeHertz::from_reading(lpsys_read::get_lpsys_mac_clk_freq(h)).0,
+        MaybeHertz::from_reading(bus_read::get_lpsys_pclk1_freq(h)).0,
+        MaybeHertz::from_reading(bus_read::get_lpsys_pclk2_freq(h)).0,
+        MaybeHertz::from_reading(bus_read::get_lpsys_clk_peri_freq(h)).0,
+        MaybeHertz::from_reading(bus_read::get_lpsys_mac_clk_freq(h)).0,
     ]
 }
 

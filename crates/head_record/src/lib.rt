@@ -28,7 +28,7 @@ fn length_fits(buffer: &[u8]) -> bool
     if 16 < count {
         return false;
     }
-    record::two_bytes(buffer[0], buffer[1]) == 109 + 9 * (count as u16)
+    record_bytes::two_bytes(buffer[0], buffer[1]) == 109 + 9 * (count as u16)
 }
 
 // The first refusal of a record, 0 where there is none.

@@ -3,7 +3,7 @@ ghost use mathlib.Core.Path.{_≡_};
 ghost use mathlib.Core.Bool.{true};
 ghost use Prim.Native.Nat.{_≤_};
 ghost use lib.ListN.{length};
-ghost use Rattle.plan_code.specs.Code.{stageOf};
+ghost use Rattle.plan.specs.Code.{stageOf};
 ghost use Rattle.plan.specs.Plan.{legal};
 ghost use Rattle.plan_clocks.specs.Clocks.{usbDivider};
 ghost use Rattle.register.specs.Codes.{fitsRegister};
@@ -25,16 +25,16 @@ fn is_set(d: Dll, word: u32) -> bool
 {
     let stage = d.stage;
     let half = d.half;
-    if head::a(word) != 1 {
+    if register::a(word) != 1 {
         return false;
     }
-    if head::c(word) != stage as u32 {
+    if register::c(word) != stage as u32 {
         return false;
     }
     if half {
-        return head::b(word) == 1;
+        return register::b(word) == 1;
     }
-    head::b(word) == 0
+    register::b(word) == 0
 }
 
 // The flash selects leave DLL2 while it is set anew.

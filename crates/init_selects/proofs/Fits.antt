@@ -9,7 +9,7 @@ use borrow.Author.Tests.{le-leb}
 use Rattle.record.specs.Bytes.{isWithin}
 use Rattle.record.proofs.Bytes.{within-at}
 use Rattle.plan.specs.declared.Plan.{Plan}
-use Rattle.plan_code.specs.Code as plan
+use Rattle.plan.specs.Code as plan
 use Rattle.plan.specs.Plan.{encoded, legal}
 use Rattle.register.specs.Word.{wordOf}
 use Rattle.register.specs.Codes.{largest, codesOf, fitsRegister}

@@ -12,7 +12,7 @@ pub fn join(bytes: &[u8], words: &mut [u16]) -> usize
     let count = bytes.len() / 2;
     let mut i = 0;
     while i < count {
-        words[i] = record::two_bytes(bytes[2 * i], bytes[2 * i + 1]);
+        words[i] = record_bytes::two_bytes(bytes[2 * i], bytes[2 * i + 1]);
         i += 1;
     }
     count

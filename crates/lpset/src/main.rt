@@ -4,26 +4,14 @@
 mod arguments;
 mod report;
 
-ghost use mathlib.Core.Path.{_≡_};
-ghost use Rattle.lpset.specs.Hclk.{hclkIn};
-use time::MaybeHertz;
 use time::Megahertz;
-
-// LPSYS HCLK of the head in a buffer, and none where the head is refused.
-fn lpsys_hclk(buffer: &[u8]) -> MaybeHertz
-    ensures { λ r. ⌜ r .0 ≡ hclkIn (now (buffer .entry)) ⌝ }
-{
-    let mut lpsys = [0u32; 6];
-    head_clocks::read_lpsys(buffer, &mut lpsys);
-    MaybeHertz(lpsys[1])
-}
 
 fn set(buffer: &mut [u8], freq: Megahertz) {
     let mut journal = [0u32; call::JOURNAL_WORDS];
     let answer = lpsys_frequency::config_lpsys_hclk_mhz(buffer, freq, &mut journal);
     let entries = answer.entries;
     report::steps(&journal[..entries]);
-    report::result(answer.refusal, lpsys_hclk(buffer));
+    report::result(answer.refusal, lpsys_hclk::lpsys_hclk(buffer));
 }
 
 fn main() {

@@ -39,7 +39,7 @@ pub fn set_lpsys_div(
     ensures { λ r. ⌜ Answers (setLpsysDiv hdiv pdiv1 pdiv2 (now (buffer .entry)) (now (journal .entry))) r (now (buffer .exit)) (now (journal .exit)) ⌝ }
 {
     let refusal = div_refusal(pdiv1, pdiv2);
-    let word = head::word(hdiv as u32, pdiv1 as u32, pdiv2 as u32);
+    let word = register::word(hdiv as u32, pdiv1 as u32, pdiv2 as u32);
     call_store::store_once(buffer, refusal, 26, word, journal)
 }
 
@@ -51,6 +51,6 @@ pub fn config_lpsys_mac_clock(
 ) -> Answer
     ensures { λ r. ⌜ Answers (configMac macdiv macfreq (now (buffer .entry)) (now (journal .entry))) r (now (buffer .exit)) (now (journal .exit)) ⌝ }
 {
-    let word = head::word(0, macdiv as u32, macfreq as u32);
+    let word = register::word(0, macdiv as u32, macfreq as u32);
     call_store::store_once(buffer, 0, 34, word, journal)
 }

@@ -10,7 +10,8 @@ use Rattle.record.specs.Refusals.{refuse}
 use Rattle.head_record.specs.Record.{headOf}
 use Rattle.lpsys_read.specs.Lpsys.{lpsysHclkOf}
 use Rattle.call.specs.Call.{Result, journalCall}
-use Rattle.lpsys_request.specs.Request.{request, slowDown}
+use Rattle.lpsys_request.specs.Request.{request}
+use Rattle.lpsys_slow.specs.Slow.{slowDown}
 
 -- `config_lpsys_hclk_mhz`; "15 LPSYS request 0 or above 48"
 abbrev pub outOfRange : ℕ → Bool

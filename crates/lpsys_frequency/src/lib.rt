@@ -37,6 +37,6 @@ pub fn ensure_safe_lcpu_frequency(buffer: &mut [u8], journal: &mut [u32]) -> Ans
     let Reading::At(f) = lpsys_read::get_lpsys_hclk_freq(head) else {
         return Answer::refused(43);
     };
-    let m = lpsys_request::slow_down(call::start(head), journal);
+    let m = lpsys_slow::slow_down(call::start(head), journal);
     call::finish(m, f.0, buffer)
 }

@@ -12,6 +12,6 @@ pub fn set_hdiv(m: Machine, journal: &mut [u32], hdiv: u8) -> Machine
 {
     let head = m.head;
     let old = head.regs[26];
-    let word = head::word(hdiv as u32, head::b(old), head::c(old));
+    let word = register::word(hdiv as u32, register::b(old), register::c(old));
     m.store(journal, 26, word)
 }

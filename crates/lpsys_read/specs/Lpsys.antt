@@ -1,11 +1,11 @@
--- Frequencies of LPSYS read from a head: rcc/clock_lpsys.rs. Assumes nothing.
+-- Frequencies of LPSYS read from a head, up to HCLK: rcc/clock_lpsys.rs. Assumes nothing.
 use Prim.Native.Nat.{ℕ}
 use mathlib.Core.Bool.{cond}
 use lib.Dec.{eqb}
 use Rattle.time.specs.declared.Reading.{Reading}
 use Rattle.head.specs.declared.Head.{Head}
-use Rattle.register.specs.Word.{byteA, byteB, byteC}
-use Rattle.clock_read.specs.Hpsys.{reg, readyReading, dividedReading, shiftedReading}
+use Rattle.register.specs.Word.{byteA}
+use Rattle.clock_read.specs.Hpsys.{reg, readyReading, dividedReading}
 
 -- 48 MHz of HRC48 (0) or HXT48 (1), where that is ready
 abbrev pub sourceReading : ℕ → Head → Reading
@@ -18,18 +18,3 @@ lpsysSysOf h = sourceReading (reg h 25) h
 -- `get_lpsys_hclk_freq`: hdiv1 a of register 26
 unfoldable pub lpsysHclkOf : Head → Reading
 lpsysHclkOf h = dividedReading (lpsysSysOf h) (byteA (reg h 26))
-
--- `get_lpsys_pclk1_freq` and `get_lpsys_pclk2_freq`: pdiv1 b, pdiv2 c
-unfoldable pub lpsysPclk1Of : Head → Reading
-lpsysPclk1Of h = shiftedReading (lpsysHclkOf h) (byteB (reg h 26))
-
-unfoldable pub lpsysPclk2Of : Head → Reading
-lpsysPclk2Of h = shiftedReading (lpsysHclkOf h) (byteC (reg h 26))
-
--- `get_lpsys_clk_peri_freq`
-unfoldable pub lpsysPeriOf : Head → Reading
-lpsysPeriOf h = sourceReading (reg h 27) h
-
--- `get_lpsys_mac_clk_freq`: macdiv b of register 34
-unfoldable pub lpsysMacOf : Head → Reading
-lpsysMacOf h = dividedReading (lpsysHclkOf h) (byteB (reg h 34))

@@ -1,27 +1,19 @@
-// The readings of rcc/clock_lpsys.rs: frequencies of LPSYS read from a head.
+// The readings of rcc/clock_lpsys.rs: frequencies of LPSYS read from a head, up to HCLK.
 ghost use mathlib.Core.Path.{_≡_};
 ghost use Rattle.register.specs.Word.{byteA};
 ghost use Rattle.clock_read.specs.Hpsys.{reg};
-ghost use Rattle.lpsys_read.specs.Lpsys.{
-  sourceReading,
-  lpsysSysOf,
-  lpsysHclkOf,
-  lpsysPclk1Of,
-  lpsysPclk2Of,
-  lpsysPeriOf,
-  lpsysMacOf,
-};
+ghost use Rattle.lpsys_read.specs.Lpsys.{sourceReading, lpsysSysOf, lpsysHclkOf};
 use head::Head;
 use time::Reading;
 
 pub fn get_lpsys_hclk_div(h: Head) -> u8
     ensures { λ r. ⌜ r ≡ byteA (reg h 26) ⌝ }
 {
-    head::a(h.regs[26]) as u8
+    register::a(h.regs[26]) as u8
 }
 
 // HRC48 or HXT48 by a select.
-fn source_freq(select: u32, h: Head) -> Reading
+pub fn source_freq(select: u32, h: Head) -> Reading
     ensures { λ r. ⌜ r ≡ sourceReading select h ⌝ }
 {
     if select == 0 {
@@ -41,31 +33,4 @@ pub fn get_lpsys_hclk_freq(h: Head) -> Reading
     ensures { λ r. ⌜ r ≡ lpsysHclkOf h ⌝ }
 {
     clock_read::divide(get_lpsys_sysclk_freq(h), get_lpsys_hclk_div(h))
-}
-
-pub fn get_lpsys_pclk1_freq(h: Head) -> Reading
-    ensures { λ r. ⌜ r ≡ lpsysPclk1Of h ⌝ }
-{
-    let pdiv1 = head::b(h.regs[26]) as u8;
-    clock_read::prescale(get_lpsys_hclk_freq(h), pdiv1)
-}
-
-pub fn get_lpsys_pclk2_freq(h: Head) -> Reading
-    ensures { λ r. ⌜ r ≡ lpsysPclk2Of h ⌝ }
-{
-    let pdiv2 = head::c(h.regs[26]) as u8;
-    clock_read::prescale(get_lpsys_hclk_freq(h), pdiv2)
-}
-
-pub fn get_lpsys_clk_peri_freq(h: Head) -> Reading
-    ensures { λ r. ⌜ r ≡ lpsysPeriOf h ⌝ }
-{
-    source_freq(h.regs[27], h)
-}
-
-pub fn get_lpsys_mac_clk_freq(h: Head) -> Reading
-    ensures { λ r. ⌜ r ≡ lpsysMacOf h ⌝ }
-{
-    let macdiv = head::b(h.regs[34]) as u8;
-    clock_read::divide(get_lpsys_hclk_freq(h), macdiv)
 }

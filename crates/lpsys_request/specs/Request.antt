@@ -1,9 +1,5 @@
 -- The LPSYS request of rcc/clock_lpsys.rs, as an effect on a running call. Assumes nothing.
 use Prim.Native.Nat.{ℕ}
-use mathlib.Core.Bool.{cond}
-use lib.Dec.{ltb}
-use Rattle.time.specs.Frequency.{hzOr}
-use Rattle.lpsys_read.specs.Lpsys.{lpsysHclkOf}
 use Rattle.journal.specs.Run.{Effect, _▸_}
 use Rattle.dvfs_lpsys.specs.LpsysSwitch.{lpsysFirst, lpsysSecond}
 use Rattle.lpsys_modes.specs.Modes.{dividerFor, presentMode, requestMode}
@@ -15,7 +11,3 @@ request f r =
     (lpsysFirst (presentMode (r .head)) (requestMode f)
     ▸ setHdiv (dividerFor f (r .head))
     ▸ lpsysSecond (presentMode (r .head)) (requestMode f)) r
-
--- `ensure_safe_lcpu_frequency`: a request of 24 MHz where LPSYS HCLK is above it
-unfoldable pub slowDown : Effect
-slowDown r = cond (ltb 24000000 (hzOr 0 (lpsysHclkOf (r .head)))) (request 24 r) r

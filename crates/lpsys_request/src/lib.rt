@@ -2,9 +2,8 @@
 ghost use mathlib.Core.Path.{_≡_};
 ghost use Prim.Native.Nat.{_≤_};
 ghost use Rattle.journal.specs.Machine.{Ran, Ready, Kept};
-ghost use Rattle.lpsys_request.specs.Request.{request, slowDown};
+ghost use Rattle.lpsys_request.specs.Request.{request};
 use journal::Machine;
-use time::Hertz;
 
 pub fn request(m: Machine, journal: &mut [u32], mhz: u32) -> Machine
     requires { ⌜ Ready 6 m (now journal) ⌝ }
@@ -20,19 +19,4 @@ pub fn request(m: Machine, journal: &mut [u32], mhz: u32) -> Machine
     let m = dvfs_lpsys::config_lpsys_dvfs_first(m, journal, current, target);
     let m = lpsys_hdiv::set_hdiv(m, journal, hdiv);
     dvfs_lpsys::config_lpsys_dvfs_second(m, journal, current, target)
-}
-
-// A request of 24 MHz where LPSYS is faster.
-pub fn slow_down(m: Machine, journal: &mut [u32]) -> Machine
-    requires { ⌜ Ready 6 m (now journal) ⌝ }
-    ensures { λ r. ⌜ Ran slowDown m r (now (journal .entry)) (now (journal .exit)) ⌝ }
-    ensures { λ r. ⌜ Kept 6 m r ⌝ }
-{
-    let head = m.head;
-    let f = lpsys_read::get_lpsys_hclk_freq(head).unwrap_or(Hertz(0));
-    let hertz = f.0;
-    if 24_000_000 < hertz {
-        return request(m, journal, 24);
-    }
-    m
 }

@@ -64,8 +64,8 @@ fn put_hpsys(head: Head, line: &mut Line)
     put_hertz(rail::rail_limit(head), line, RAIL);
     put_supply(dvfs::is_hpsys_dvfs_mode_s(head), line, SUPPLY);
     let flash = head.regs[5];
-    words::put_source(head::b(flash), line, FLASH1);
-    words::put_source(head::c(flash), line, FLASH2);
+    words::put_source(register::b(flash), line, FLASH1);
+    words::put_source(register::c(flash), line, FLASH2);
 }
 
 fn put_lpsys(head: Head, line: &mut Line) {

@@ -1,2 +1,1 @@
-pub mod WellFormed
-pub mod RoundTrip
+pub mod Legal

@@ -2,7 +2,7 @@
 ghost use mathlib.Core.Path.{_≡_};
 ghost use mathlib.Core.Bool.{cond};
 ghost use Prim.Native.Nat.{_≤_, _/_};
-ghost use Rattle.plan_code.specs.Code.{stageOf};
+ghost use Rattle.plan.specs.Code.{stageOf};
 ghost use Rattle.plan_clocks.specs.Clocks.{maybeHz, maybeWholeHz, sysHz, usbHz, sourcesOf, targetOf};
 use clock::MaybeDll;
 use plan::Plan;

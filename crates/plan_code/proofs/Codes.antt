@@ -13,7 +13,8 @@ use Rattle.record.proofs.Bytes.{and-left, and-right, within-at}
 use Rattle.clock.specs.declared.Dll.{Dll}
 use Rattle.clock.specs.declared.MaybeDll.{MaybeDll}
 use Rattle.clock.specs.declared.MaybeDll.the-variants.{Absent, Present}
-use Rattle.plan_code.specs.Code.{largest, settled, coded, dllOf, bit, presentOf, stageOf, halfOf}
+use Rattle.plan.specs.Code.{largest, bit, presentOf, stageOf, halfOf}
+use Rattle.plan_code.specs.Code.{settled, coded, dllOf}
 
 -- a flag's byte and back
 pub bit-back : (x : ℕ) → x ≤ 1 → bit (eqb x 1) ≡ x

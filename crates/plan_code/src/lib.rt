@@ -1,15 +1,8 @@
 // The codes of a plan record's bytes.
 ghost use mathlib.Core.Path.{_≡_};
 ghost use lib.ListN.{length};
-ghost use Rattle.plan_code.specs.Code.{
-  settled,
-  coded,
-  dllOf,
-  bit,
-  presentOf,
-  stageOf,
-  halfOf,
-};
+ghost use Rattle.plan.specs.Code.{bit, presentOf, stageOf, halfOf};
+ghost use Rattle.plan_code.specs.Code.{settled, coded, dllOf};
 use clock::Dll;
 use clock::MaybeDll;
 
@@ -34,7 +27,7 @@ pub fn is_coded(bytes: &[u8]) -> bool
     requires { ⌜ length (now bytes) ≡ 20 ⌝ }
     ensures { λ r. ⌜ r ≡ coded (now (bytes .entry)) ⌝ }
 {
-    if !record::within(&bytes[3..], &LARGEST) {
+    if !record_bytes::within(&bytes[3..], &LARGEST) {
         return false;
     }
     if !is_settled(bytes[7], bytes[8], bytes[9]) {

@@ -15,7 +15,7 @@ pub fn refusal(bytes: &[u8]) -> u8
     if bytes.len() != BYTES {
         return 1;
     }
-    if record::two_bytes(bytes[0], bytes[1]) != LENGTH {
+    if record_bytes::two_bytes(bytes[0], bytes[1]) != LENGTH {
         return 1;
     }
     if bytes[2] != VERSION {

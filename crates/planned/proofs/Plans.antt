@@ -7,12 +7,14 @@ use native.Mathlib.Omega.{arith}
 use lib.Dec.{eqb}
 use borrow.Author.Tests.{eqb-false}
 use Rattle.plan.specs.declared.Plan.{Plan}
-use Rattle.plan.specs.declared.Decoded.{Decoded}
-use Rattle.plan.specs.declared.Decoded.the-variants.{Read, Unread}
-use Rattle.plan.specs.Plan.{planOf, recordRefusal, legal, decoded}
-use Rattle.plan.proofs.RoundTrip.{read-is, read-legal}
+use Rattle.plan_record.specs.declared.Decoded.{Decoded}
+use Rattle.plan_record.specs.declared.Decoded.the-variants.{Read, Unread}
+use Rattle.plan.specs.Plan.{legal}
+use Rattle.plan_record.specs.Record.{planOf, recordRefusal, decoded}
+use Rattle.plan_record.proofs.RoundTrip.{read-is, read-legal}
 use Rattle.plan_clocks.specs.Clocks.{usbDivider, targetOf}
-use Rattle.verdict.specs.Verdict.{planRefusal, judged, verdict, numberOf}
+use Rattle.plan_tests.specs.Tests.{planRefusal}
+use Rattle.verdict.specs.Verdict.{judged, verdict, numberOf}
 use Rattle.verdict.proofs.Passed.{number-is}
 use Rattle.verdict.proofs.Usb.{usb-divider-range}
 use Rattle.planned.specs.declared.Planned.{Planned}

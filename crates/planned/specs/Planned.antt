@@ -3,7 +3,8 @@ use Prim.Native.Nat.{ℕ, _≤_}
 use mathlib.Core.Path.{_≡_}
 use mathlib.Core.Bool.{true}
 use mathlib.Core.List.{List}
-use Rattle.plan.specs.Plan.{planOf, legal}
+use Rattle.plan.specs.Plan.{legal}
+use Rattle.plan_record.specs.Record.{planOf}
 use Rattle.plan_clocks.specs.Clocks.{targetOf}
 use Rattle.verdict.specs.Verdict.{verdict, numberOf}
 use Rattle.planned.specs.declared.Planned.{Planned}

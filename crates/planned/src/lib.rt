@@ -2,9 +2,9 @@
 ghost use mathlib.Core.Path.{_≡_};
 ghost use Rattle.verdict.specs.Verdict.{verdict, numberOf};
 ghost use Rattle.planned.specs.Planned.{Plans};
-use plan::Decoded;
 use plan::Plan;
 use plan_clocks::Target;
+use plan_record::Decoded;
 use time::Hertz;
 
 // The refusal 1 to 14, or 0; and where it is 0, the plan and what it gives.
@@ -18,7 +18,7 @@ pub struct Planned {
 pub fn check(bytes: &[u8]) -> u8
     ensures { λ r. ⌜ r ≡ numberOf (verdict (now (bytes .entry))) ⌝ }
 {
-    match plan::decode(bytes) {
+    match plan_record::decode(bytes) {
         Decoded::Unread(refusal) => refusal,
         Decoded::Read(plan) => verdict::refusal(plan),
     }
@@ -35,7 +35,7 @@ fn none(refusal: u8) -> Planned
     };
     Planned {
         refusal,
-        plan: Plan::sysclk(),
+        plan: plan_record::sysclk(),
         target,
     }
 }
@@ -47,7 +47,7 @@ pub fn admit(bytes: &[u8]) -> Planned
     if refusal != 0 {
         return none(refusal);
     }
-    let plan = plan::fields(bytes);
+    let plan = plan_record::fields(bytes);
     Planned {
         refusal,
         plan,

@@ -176,5 +176,5 @@ pub fn within(buffer: &[u8]) -> bool
     ensures { λ r. ⌜ r ≡ isWithin (take 105 (drop 3 (now (buffer .entry)))) (drop 3 largest) ⌝ }
 {
     let largest = LARGEST;
-    record::within(&buffer[3..108], &largest)
+    record_bytes::within(&buffer[3..108], &largest)
 }

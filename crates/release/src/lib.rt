@@ -14,7 +14,7 @@ pub fn release(buffer: &mut [u8], id: u8) -> Answer
     }
     let head = admitted.head;
     let tasks = head.tasks;
-    if !task::has_id(tasks, head.count, id) {
+    if !task_rules::has_id(tasks, head.count, id) {
         return Answer::refused(42);
     }
     let m = call::start(tasks::without_task(head, id));

@@ -20,7 +20,7 @@ fn lpsys(call: replay_lpsys::Call, name: &[u8]) {
     files::replay(Recorded::Call(Call::Lpsys(call)), name);
 }
 
-fn config(call: replay_config::Call, name: &[u8]) {
+fn config(call: config_call::Call, name: &[u8]) {
     files::replay(Recorded::Call(Call::Config(call)), name);
 }
 
@@ -45,10 +45,10 @@ fn setters_of_lpsys() {
 }
 
 fn calls_of_config() {
-    config(replay_config::Call::Calibrate, b"calibrate");
-    config(replay_config::Call::Init, b"init");
-    config(replay_config::Call::Reconfigure, b"reconfigure");
-    config(replay_config::Call::Change, b"change");
+    config(config_call::Call::Calibrate, b"calibrate");
+    config(config_call::Call::Init, b"init");
+    config(config_call::Call::Reconfigure, b"reconfigure");
+    config(config_call::Call::Change, b"change");
 }
 
 fn calls_of_tasks() {

@@ -10,7 +10,7 @@ use Rattle.answered.specs.Answer.{unused}
 use Rattle.line_numbers.specs.Joined.{joined}
 use Rattle.given_text.specs.Given.{givenText}
 use Rattle.left_text.specs.Left.{leftText}
-use Rattle.replay_config.proofs.Laws.{lent-most}
+use Rattle.config_call.proofs.Laws.{lent-most}
 use Rattle.replay_calls.specs.declared.Call.{Call}
 use Rattle.replay_calls.specs.declared.Call.the-variants.{Lpsys, Config, Tasks}
 use Rattle.replay_calls.specs.Line.{beside, lentClocks, resultOf, clocksAfter, lineOf}

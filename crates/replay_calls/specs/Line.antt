@@ -8,6 +8,7 @@ use Rattle.answered.specs.Answer.{unused}
 use Rattle.line_numbers.specs.Joined.{joined}
 use Rattle.given_text.specs.Given.{givenText}
 use Rattle.left_text.specs.Left.{resultText}
+use Rattle.config_call.specs.Clocks as clocks
 use Rattle.replay_lpsys.specs.Calls as lpsys
 use Rattle.replay_config.specs.Calls as config
 use Rattle.replay_tasks.specs.Calls as tasks
@@ -21,7 +22,7 @@ beside j o = record { refusal = o .refusal; value = o .value; entries = o .entri
 -- how many clocks a call is lent
 abbrev pub lentClocks : Call → ℕ
 lentClocks (Lpsys call) = 0
-lentClocks (Config call) = config.lentClocks call
+lentClocks (Config call) = clocks.lentClocks call
 lentClocks (Tasks call) = 0
 
 -- what a call leaves of a head's buffer and a journal, given an argument's bytes and answers

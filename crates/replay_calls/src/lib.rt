@@ -15,7 +15,7 @@ use call::Answer;
 
 pub enum Call {
     Lpsys(replay_lpsys::Call),
-    Config(replay_config::Call),
+    Config(config_call::Call),
     Tasks(replay_tasks::Call),
 }
 
@@ -24,7 +24,7 @@ fn lent_clocks(call: Call) -> usize
 {
     match call {
         Call::Lpsys(_) => 0,
-        Call::Config(call) => replay_config::lent_clocks(call),
+        Call::Config(call) => config_call::lent_clocks(call),
         Call::Tasks(_) => 0,
     }
 }

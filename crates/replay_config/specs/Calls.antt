@@ -4,16 +4,10 @@ use mathlib.Core.List.{List}
 use Rattle.call.specs.Call.{Result}
 use Rattle.guard.specs.Guard.{changeCall}
 use Rattle.calibration_call.specs.Calibration.{calibration}
-use Rattle.clock_config.specs.Calls.{initCall, initClocks, reconfigureCall, reconfigureClocks}
-use Rattle.replay_config.specs.declared.Call.{Call}
-use Rattle.replay_config.specs.declared.Call.the-variants.{Calibrate, Init, Reconfigure, Change}
-
--- how many clocks a call is lent: `init` the new ones to write, `reconfigure_sysclk` the former ones
-abbrev pub lentClocks : Call → ℕ
-lentClocks Calibrate = 0
-lentClocks Init = 15
-lentClocks Reconfigure = 15
-lentClocks Change = 0
+use Rattle.init_call.specs.Calls.{initCall, initClocks}
+use Rattle.reconfigure_call.specs.Calls.{reconfigureCall, reconfigureClocks}
+use Rattle.config_call.specs.declared.Call.{Call}
+use Rattle.config_call.specs.declared.Call.the-variants.{Calibrate, Init, Reconfigure, Change}
 
 -- what a call leaves of a head's buffer and a journal, given a plan's bytes and answers
 abbrev pub resultOf : Call → List ℕ → List ℕ → List ℕ → List ℕ → Result

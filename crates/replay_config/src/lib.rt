@@ -1,27 +1,9 @@
 // The calls of rcc/clock_config.rs and the guarded change, run on a plan's bytes.
 ghost use mathlib.Core.Path.{_≡_};
 ghost use Rattle.call.specs.Call.{Answers};
-ghost use Rattle.replay_config.specs.Calls.{lentClocks, resultOf, clocksAfter};
+ghost use Rattle.replay_config.specs.Calls.{resultOf, clocksAfter};
 use call::Answer;
-
-pub enum Call {
-    Calibrate,
-    Init,
-    Reconfigure,
-    Change,
-}
-
-// How many clocks a call is lent.
-pub fn lent_clocks(call: Call) -> usize
-    ensures { λ r. ⌜ r ≡ lentClocks call ⌝ }
-{
-    match call {
-        Call::Calibrate => 0,
-        Call::Init => 15,
-        Call::Reconfigure => 15,
-        Call::Change => 0,
-    }
-}
+use config_call::Call;
 
 // Runs a call. `clocks` are the former ones, then those that it leaves.
 pub fn run(
@@ -36,10 +18,10 @@ pub fn run(
     ensures { λ _. ⌜ now (clocks .exit) ≡ clocksAfter call (now (clocks .entry)) (now (plan .entry)) (now (buffer .entry)) (now (journal .entry)) (now (answers .entry)) ⌝ }
 {
     match call {
-        Call::Calibrate => clock_config::calibrate_hrc48(buffer, journal, answers),
-        Call::Init => clock_config::init(buffer, plan, clocks, journal, answers),
+        Call::Calibrate => calibration_call::calibrate_hrc48(buffer, journal, answers),
+        Call::Init => init_call::init(buffer, plan, clocks, journal, answers),
         Call::Reconfigure => {
-            clock_config::reconfigure_sysclk(buffer, plan, clocks, journal, answers)
+            reconfigure_call::reconfigure_sysclk(buffer, plan, clocks, journal, answers)
         }
         Call::Change => guard::change(buffer, plan, journal, answers),
     }

@@ -15,7 +15,7 @@ pub fn all_ok(bytes: &[u8], count: usize) -> bool
 {
     let mut i = 0;
     while i < count {
-        if !task::ok(task_bytes::task_at(bytes, 9 * i)) {
+        if !task_rules::ok(task_bytes::task_at(bytes, 9 * i)) {
             return false;
         }
         i += 1;

@@ -1,4 +1,4 @@
-// time.rs: frequencies made of kHz and MHz, their sums, products and quotients. The source is modified from embassy-stm32; see NOTICE.
+// time.rs: frequencies made of Hz, kHz and MHz, their sums, products and quotients. The source is modified from embassy-stm32; see NOTICE.
 ghost use mathlib.Core.Path.{_≡_};
 ghost use Prim.Native.Nat.{_+_, _*_};
 ghost use Rattle.time_arithmetic.specs.Arithmetic.{exact, quotient};
@@ -20,6 +20,12 @@ fn in_32_bits(hertz: u64) -> Computed
     } else {
         Computed::Overflow
     }
+}
+
+pub fn hz(hertz: u32) -> Hertz
+    ensures { λ r. ⌜ r .0 ≡ hertz ⌝ }
+{
+    Hertz(hertz)
 }
 
 pub fn khz(kilohertz: u32) -> Computed

@@ -9,8 +9,9 @@ use Rattle.plan.specs.Plan.{legal}
 use Rattle.plan_clocks.specs.Clocks.{maybeWholeHz, sysHz, hclkHz, pclk1Hz, pclk2Hz, usbHz, targetOf}
 use Rattle.plan_sources.specs.Sources.{coreOnAbsentDll1, coreOnDbl96, flashOnAbsentDll, usbOnAbsentDll2}
 use Rattle.plan_limits.specs.Limits.{usbNot60, dll1CoreTooSlow, hclkTooFast, pclk1TooFast, pclk2TooFast, dll2TooFast}
+use Rattle.plan_tests.specs.Tests.{planTests, planRefusal}
 use Rattle.verdict.specs.declared.Verdict.the-variants.{Accepted, Refused}
-use Rattle.verdict.specs.Verdict.{verdictOf, numberOf, planTests, planRefusal}
+use Rattle.verdict.specs.Verdict.{verdictOf, numberOf}
 
 -- an accepted plan passed each test
 pub record Passed (p : Plan) : Type 0 where

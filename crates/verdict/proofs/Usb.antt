@@ -11,12 +11,12 @@ use Rattle.clock.specs.declared.MaybeDll.{MaybeDll}
 use Rattle.clock.specs.declared.MaybeDll.the-variants.{Absent, Present}
 use Rattle.clock.proofs.Laws.{dll-least, dll-most}
 use Rattle.plan.specs.declared.Plan.{Plan}
-use Rattle.plan_code.specs.Code.{stageOf}
+use Rattle.plan.specs.Code.{stageOf}
 use Rattle.plan_clocks.specs.Clocks.{maybeHz, sysHz, usbHz, usbDivider}
 use Rattle.plan_sources.specs.Sources.{isAbsent, coreOnAbsentDll1, usbOnAbsentDll2}
 use Rattle.plan_limits.specs.Limits.{usbNot60}
-use Rattle.verdict.specs.Verdict.{planRefusal}
-use Rattle.plan.proofs.WellFormed.{legal-stages}
+use Rattle.plan_tests.specs.Tests.{planRefusal}
+use Rattle.plan.proofs.Legal.{legal-stages}
 use Rattle.verdict.proofs.Passed.{Passed, passed}
 
 -- a clock of 12 to 384 MHz

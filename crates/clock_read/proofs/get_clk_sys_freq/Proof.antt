@@ -1,6 +1,7 @@
 -- `clock_read::get_clk_sys_freq` meets its contract: the select picks the case of `sysOf`. Assumes nothing.
 use borrow.Author.Tests.{eq-eqb, ne-eqb}
 use Rattle.clock_read.specs.Hpsys.{sysOf}
+use Rattle.clock_read.proofs.Codes.{dll1-stage}
 use borrow.Author.Needs.{needs}
 use Rattle.clock_read.proofs.get_clk_sys_freq.Statement.{statement}
 use Rattle.clock_read.proofs.get_clk_sys_freq.Tie as tie
@@ -22,12 +23,15 @@ returns-2 : tie.Need-returns-2
 unfolding sysOf
 returns-2 c = simp (ne-eqb _ _ (c .before .before .if1 .left), eq-eqb _ _ (c .before .if2 .taken), c .ready-freq2 .ensures)
 
-get-clk-dll1-freq-requires : tie.Need-get-clk-dll1-freq-requires
-get-clk-dll1-freq-requires c κs = search needs
+element-copy-out-dll-freq : tie.Need-element-copy-out-dll-freq
+element-copy-out-dll-freq c = search needs
+
+dll-freq-requires : tie.Need-dll-freq-requires
+dll-freq-requires c κs = dll1-stage (c .before .before .before .before .before .args .t1) (c .before .before .before .before .before .pre)
 
 returns-3 : tie.Need-returns-3
 unfolding sysOf
-returns-3 c = simp (ne-eqb _ _ (c .before .before .before .if1 .left), ne-eqb _ _ (c .before .before .if2 .left), eq-eqb _ _ (c .before .if3 .taken), c .get-clk-dll1-freq .ensures)
+returns-3 c = simp (ne-eqb _ _ (c .before .before .before .before .if1 .left), ne-eqb _ _ (c .before .before .before .if2 .left), eq-eqb _ _ (c .before .before .if3 .taken), c .dll-freq .ensures)
 
 returns-4 : tie.Need-returns-4
 unfolding sysOf
@@ -42,6 +46,7 @@ get-clk-sys-freq-spec =
     returns
     ready-freq-requires-2
     returns-2
-    get-clk-dll1-freq-requires
+    element-copy-out-dll-freq
+    dll-freq-requires
     returns-3
     returns-4)

@@ -1,6 +1,6 @@
 -- `clock_switch::config_clock` meets its contract: one step after the other. Assumes nothing.
 use native.Mathlib.Omega.{arith}
-use Rattle.plan.proofs.WellFormed.{legal-stages}
+use Rattle.plan.proofs.Legal.{legal-stages}
 use Rattle.journal.proofs.Steps.{both, then-quiet}
 use Rattle.clock_switch.specs.Switch.{configClock}
 use borrow.Author.Needs.{needs}

@@ -1,6 +1,6 @@
 -- `core_clock::configure_dll1` meets its contract: the plan has DLL1 or has not. Assumes nothing.
 use native.Mathlib.Omega.{arith}
-use Rattle.plan_code.specs.Code.{stageOf}
+use Rattle.plan.specs.Code.{stageOf}
 use Rattle.journal.proofs.Steps.{no-step}
 use borrow.Author.Needs.{needs}
 use Rattle.core_clock.proofs.configure_dll1.Statement.{statement}

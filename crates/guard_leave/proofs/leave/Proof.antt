@@ -1,6 +1,6 @@
 -- `guard_leave::leave` meets its contract: one step after the other. Assumes nothing.
 use native.Mathlib.Omega.{arith}
-use Rattle.plan.proofs.WellFormed.{legal-stages}
+use Rattle.plan.proofs.Legal.{legal-stages}
 use Rattle.journal.proofs.Steps.{both, both-quiet}
 use borrow.Author.Needs.{needs}
 use Rattle.guard_leave.proofs.leave.Statement.{statement}

@@ -1,5 +1,5 @@
 -- `init_rest::init_rest` meets its contract: one step after the other. Assumes nothing.
-use Rattle.plan.proofs.WellFormed.{legal-stages}
+use Rattle.plan.proofs.Legal.{legal-stages}
 use Rattle.journal.proofs.Steps.{then-quiet}
 use Rattle.init_rest.specs.Rest.{initRest}
 use borrow.Author.Needs.{needs}

@@ -1,6 +1,7 @@
 -- `planned::admit` meets its contract: bytes that are not refused are a record, and are read. Assumes nothing.
 use mathlib.Core.Path.{sym, ap, _∙_}
-use Rattle.plan.proofs.WellFormed.{well-formed, legal-stages}
+use Rattle.plan.proofs.Legal.{legal-stages}
+use Rattle.plan_record.proofs.WellFormed.{well-formed}
 use Rattle.plan.specs.Plan.{legal}
 use Rattle.planned.proofs.Plans.{taken, plans-refused, plans-accepted}
 use borrow.Author.Needs.{needs}

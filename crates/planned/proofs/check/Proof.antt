@@ -1,6 +1,6 @@
 -- `planned::check` meets its contract: the bytes are decoded, then judged. Assumes nothing.
 use mathlib.Core.Path.{sym, _∙_}
-use Rattle.plan.proofs.RoundTrip.{read-legal}
+use Rattle.plan_record.proofs.RoundTrip.{read-legal}
 use Rattle.planned.proofs.Plans.{number-unread, number-read}
 use borrow.Author.Needs.{needs}
 use Rattle.planned.proofs.check.Statement.{statement}

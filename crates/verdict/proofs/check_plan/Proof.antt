@@ -3,8 +3,9 @@ use mathlib.Core.Path.{sym, _∙_}
 use borrow.Author.Needs.{needs}
 use borrow.Author.Tests.{eq-eqb, ne-eqb, not-true, not-false}
 use Rattle.record.specs.Refusals.{firstOf}
-use Rattle.plan.proofs.WellFormed.{legal-stages}
-use Rattle.verdict.specs.Verdict.{verdictOf, planRefusal}
+use Rattle.plan.proofs.Legal.{legal-stages}
+use Rattle.plan_tests.specs.Tests.{planRefusal}
+use Rattle.verdict.specs.Verdict.{verdictOf}
 use Rattle.verdict.proofs.check_plan.Statement.{statement}
 use Rattle.verdict.proofs.check_plan.Tie as tie
 

@@ -1,5 +1,5 @@
 -- `verdict::refusal` meets its contract: a legal plan has a target, which is judged. Assumes nothing.
-use Rattle.plan.proofs.WellFormed.{legal-stages}
+use Rattle.plan.proofs.Legal.{legal-stages}
 use borrow.Author.Needs.{needs}
 use Rattle.verdict.proofs.refusal.Statement.{statement}
 use Rattle.verdict.proofs.refusal.Tie as tie
