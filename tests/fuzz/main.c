@@ -14,11 +14,12 @@
 #include <stdlib.h>
 #include <string.h>
 #include <sys/mman.h>
+#include <sys/time.h>
 #include <sys/wait.h>
 #include <unistd.h>
 
 #define MOST_BYTES 256u
-#define SECONDS_TO_RETURN 20u
+#define SECONDS_TO_RETURN 20
 
 struct bytes {
     size_t size;
@@ -64,6 +65,17 @@ static void print_answers(const struct call *call, const uint64_t *count)
     printf("\n");
 }
 
+/*
+ * Ends the process by SIGPROF once it has used that much processor time from here on: a call does
+ * not return. The time of a busy machine's other processes does not count.
+ */
+static void limit_time(void)
+{
+    struct itimerval limit = {{0, 0}, {SECONDS_TO_RETURN, 0}};
+
+    setitimer(ITIMER_PROF, &limit, NULL);
+}
+
 /* Makes the runs, with the number of the present one where the parent sees it. */
 static void make_runs(uint64_t runs, uint64_t seed, volatile uint64_t *present)
 {
@@ -73,7 +85,7 @@ static void make_runs(uint64_t runs, uint64_t seed, volatile uint64_t *present)
 
     for (*present = 0; *present < runs; ++*present) {
         if (*present % 4096 == 0)
-            alarm(SECONDS_TO_RETURN);
+            limit_time();
         if (*present % step == 0 && *present != 0) {
             printf("fuzz: %lu runs passed\n", (unsigned long)*present);
             fflush(stdout);
@@ -100,7 +112,7 @@ static int fails(const struct bytes *bytes)
         dup2(null, STDOUT_FILENO);
         dup2(null, STDERR_FILENO);
         signal(SIGSEGV, SIG_DFL);
-        alarm(SECONDS_TO_RETURN);
+        limit_time();
         fuzz_one(bytes->at, bytes->size);
         _exit(0);
     }
@@ -176,7 +188,7 @@ static int run_all(const char *program, uint64_t runs, uint64_t seed)
         return 0;
     }
     printf("fuzz: run %lu failed%s\n", (unsigned long)*present,
-           WIFSIGNALED(status) && WTERMSIG(status) == SIGALRM ? ": it does not return" : "");
+           WIFSIGNALED(status) && WTERMSIG(status) == SIGPROF ? ": it does not return" : "");
     fflush(stdout);
     generate(seed, *present, &bytes);
     shrink(&bytes);

@@ -6,7 +6,8 @@ use lib.Dec.{eqb}
 use Rattle.plan.specs.declared.Plan.{Plan}
 use Rattle.journal.specs.Run.{Run, Effect, idle, _▸_}
 use Rattle.init_begin.specs.Begin.{initBegin}
-use Rattle.init_first.specs.First.{bootStores, calibrating, warning, initFirst}
+use Rattle.init_warning.specs.Warning.{warning}
+use Rattle.init_first.specs.First.{bootStores, calibrating, initFirst}
 use Rattle.init_core.specs.Core.{initClock}
 
 -- all of it but for what every boot does

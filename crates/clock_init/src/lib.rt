@@ -10,7 +10,7 @@ ghost use Rattle.journal.specs.Machine.{Ran, Ready, Kept};
 ghost use Rattle.init_first.specs.First.{bootStores, calibrating, Warned};
 ghost use Rattle.clock_init.specs.Init.{boot, init};
 ghost use Rattle.clock_init.specs.Told.{Told};
-use init_first::Calibrated;
+use init_warning::Calibrated;
 use journal::Machine;
 use plan::Plan;
 use plan_clocks::Target;

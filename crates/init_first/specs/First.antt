@@ -1,7 +1,7 @@
 -- What `init` of rcc/clock_config.rs does before it sets the core clock, on all but a standby boot. Assumes nothing.
 use Prim.Native.Nat.{ℕ}
 use mathlib.Core.Path.{_≡_}
-use mathlib.Core.Bool.{Bool, cond, _||_}
+use mathlib.Core.Bool.{cond}
 use mathlib.Core.List.{List}
 use lib.Dec.{eqb}
 use Rattle.plan.specs.declared.Plan.{Plan}
@@ -10,6 +10,7 @@ use Rattle.journal.specs.declared.Machine.{Machine}
 use Rattle.journal.specs.Run.{Run, Effect, idle, halted, _▸_, store}
 use Rattle.journal.specs.Machine.{Reached}
 use Rattle.calibration.specs.Calibration.{calibrateHrc48}
+use Rattle.init_warning.specs.Warning.{warning, swallowed}
 
 -- LRC32 on, the low-power clock on Lrc32 (1), the DLL buffer on
 unfoldable pub bootStores : Effect
@@ -22,21 +23,6 @@ leaveHrc48 r = cond (eqb (reg (r .head) 1) 0) (cond (r .head .«hxt48_ready») (
 -- the calibration that a plan asks for
 unfoldable pub calibrating : Plan → List ℕ → Effect
 calibrating p a = cond (p .«hrc48_calibrate») (leaveHrc48 ▸ calibrateHrc48 a) idle
-
--- "`init` swallows 31 and 33 of its calibration and reports them beside done; 34 and 36 end it."
-abbrev pub isWarning : ℕ → Bool
-isWarning stop = eqb stop 31 || eqb stop 33
-
-unfoldable pub warning : ℕ → ℕ
-warning stop = cond (isWarning stop) stop 0
-
-unfoldable pub swallowed : Effect
-swallowed r = record {
-  entries = r .entries;
-  head = r .head;
-  taken = r .taken;
-  stop = cond (isWarning (r .stop)) 0 (r .stop);
-}
 
 -- all of it
 unfoldable pub initFirst : Plan → List ℕ → Effect

@@ -2,27 +2,12 @@
 ghost use mathlib.Core.Path.{_≡_};
 ghost use Prim.Native.Nat.{_≤_};
 ghost use lib.ListN.{length};
-ghost use Rattle.head.specs.Encodable.{Encodable};
 ghost use Rattle.journal.specs.Run.{_▸_};
-ghost use Rattle.journal.specs.Machine.{Ran, Quietly, Ready, Kept};
-ghost use Rattle.init_first.specs.First.{
-  bootStores,
-  leaveHrc48,
-  calibrating,
-  isWarning,
-  warning,
-  swallowed,
-  initFirst,
-  Warned,
-};
+ghost use Rattle.journal.specs.Machine.{Ran, Ready, Kept};
+ghost use Rattle.init_first.specs.First.{bootStores, leaveHrc48, calibrating, initFirst, Warned};
+use init_warning::Calibrated;
 use journal::Machine;
 use plan::Plan;
-
-// A machine that has been calibrated, and 0, or the 31 or 33 that was swallowed.
-pub struct Calibrated {
-    pub machine: Machine,
-    pub warning: u8,
-}
 
 fn boot_stores(m: Machine, journal: &mut [u32]) -> Machine
     requires { ⌜ Ready 3 m (now journal) ⌝ }
@@ -67,42 +52,6 @@ fn calibrate(m: Machine, journal: &mut [u32], answers: &[u16], p: Plan) -> Machi
     m
 }
 
-fn is_warning(stop: u8) -> bool
-    ensures { λ r. ⌜ r ≡ isWarning stop ⌝ }
-{
-    if stop == 31 {
-        return true;
-    }
-    stop == 33
-}
-
-// 31 and 33 end the calibration, not `init`.
-fn swallow(m: Machine) -> Calibrated
-    requires { ⌜ Encodable (m .head) ⌝ }
-    ensures { λ r. ⌜ Quietly swallowed m (r .machine) ⌝ }
-    ensures { λ r. ⌜ Kept 0 m (r .machine) ⌝ }
-    ensures { λ r. ⌜ (r .machine .taken ≡ m .taken) × (r .warning ≡ warning (m .stop)) ⌝ }
-{
-    let stop = m.stop;
-    let head = m.head;
-    if is_warning(stop) {
-        let machine = Machine {
-            head,
-            at: m.at,
-            taken: m.taken,
-            stop: 0,
-        };
-        return Calibrated {
-            machine,
-            warning: stop,
-        };
-    }
-    Calibrated {
-        machine: m,
-        warning: 0,
-    }
-}
-
 pub fn init_first(m: Machine, journal: &mut [u32], answers: &[u16], p: Plan) -> Calibrated
     requires { ⌜ Ready 61 m (now journal) ⌝ }
     requires { ⌜ (m .taken ≤ length (now answers)) × (length (now answers) ≤ 4096) ⌝ }
@@ -113,5 +62,5 @@ pub fn init_first(m: Machine, journal: &mut [u32], answers: &[u16], p: Plan) -> 
 {
     let m = boot_stores(m, journal);
     let m = calibrate(m, journal, answers, p);
-    swallow(m)
+    init_warning::swallow(m)
 }

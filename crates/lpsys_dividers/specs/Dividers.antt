@@ -1,22 +1,17 @@
 -- What each setter of a divider of rcc/clock_lpsys.rs leaves, on the bytes lent to it. Assumes nothing.
 use Prim.Native.Nat.{ℕ}
-use mathlib.Core.Bool.{_||_}
 use mathlib.Core.List.{List, [], _∷_}
-use lib.Dec.{ltb}
-use Rattle.record.specs.Refusals.{refuse}
 use Rattle.register.specs.Word.{wordOf}
 use Rattle.journal.specs.Run.{store}
 use Rattle.call.specs.Call.{Result, journalCall}
+use Rattle.lpsys_words.specs.Words.{divRefusal}
 use Rattle.lpsys_hdiv.specs.Hdiv.{setHdiv}
 
 -- `set_lpsys_hdiv`
 unfoldable pub setLpsysHdiv : ℕ → List ℕ → List ℕ → Result
 setLpsysHdiv hdiv b j = journalCall [] (setHdiv hdiv) 0 b j
 
--- `set_lpsys_div`; "3 a byte outside its codes, a setter's too": exponents are 0 to 7
-abbrev pub divRefusal : ℕ → ℕ → ℕ
-divRefusal pdiv1 pdiv2 = refuse 3 (ltb 7 pdiv1 || ltb 7 pdiv2)
-
+-- `set_lpsys_div`
 unfoldable pub setLpsysDiv : ℕ → ℕ → ℕ → List ℕ → List ℕ → Result
 setLpsysDiv hdiv pdiv1 pdiv2 b j = journalCall (divRefusal pdiv1 pdiv2 ∷ []) (store 26 (wordOf hdiv pdiv1 pdiv2)) 0 b j
 

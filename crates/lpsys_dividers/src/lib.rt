@@ -1,7 +1,6 @@
 // The setters of rcc/clock_lpsys.rs that set dividers, one store each; `clock_lpsys` passes them on.
-ghost use mathlib.Core.Path.{_≡_};
 ghost use Rattle.call.specs.Call.{Answers};
-ghost use Rattle.lpsys_dividers.specs.Dividers.{divRefusal, setLpsysHdiv, setLpsysDiv, configMac};
+ghost use Rattle.lpsys_dividers.specs.Dividers.{setLpsysHdiv, setLpsysDiv, configMac};
 use call::Answer;
 
 pub fn set_lpsys_hdiv(buffer: &mut [u8], hdiv: u8, journal: &mut [u32]) -> Answer
@@ -16,19 +15,6 @@ pub fn set_lpsys_hdiv(buffer: &mut [u8], hdiv: u8, journal: &mut [u32]) -> Answe
     call::finish(m, 0, buffer)
 }
 
-// The test of the two exponents.
-fn div_refusal(pdiv1: u8, pdiv2: u8) -> u8
-    ensures { λ r. ⌜ r ≡ divRefusal pdiv1 pdiv2 ⌝ }
-{
-    if 7 < pdiv1 {
-        return 3;
-    }
-    if 7 < pdiv2 {
-        return 3;
-    }
-    0
-}
-
 pub fn set_lpsys_div(
     buffer: &mut [u8],
     hdiv: u8,
@@ -38,8 +24,8 @@ pub fn set_lpsys_div(
 ) -> Answer
     ensures { λ r. ⌜ Answers (setLpsysDiv hdiv pdiv1 pdiv2 (now (buffer .entry)) (now (journal .entry))) r (now (buffer .exit)) (now (journal .exit)) ⌝ }
 {
-    let refusal = div_refusal(pdiv1, pdiv2);
-    let word = register::word(hdiv as u32, pdiv1 as u32, pdiv2 as u32);
+    let refusal = lpsys_words::div_refusal(pdiv1, pdiv2);
+    let word = lpsys_words::div_word(hdiv, pdiv1, pdiv2);
     call_store::store_once(buffer, refusal, 26, word, journal)
 }
 
@@ -51,6 +37,6 @@ pub fn config_lpsys_mac_clock(
 ) -> Answer
     ensures { λ r. ⌜ Answers (configMac macdiv macfreq (now (buffer .entry)) (now (journal .entry))) r (now (buffer .exit)) (now (journal .exit)) ⌝ }
 {
-    let word = register::word(0, macdiv as u32, macfreq as u32);
+    let word = lpsys_words::mac_word(macdiv, macfreq);
     call_store::store_once(buffer, 0, 34, word, journal)
 }

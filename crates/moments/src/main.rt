@@ -2,8 +2,7 @@
 // that of the third, on the head in the file that the first names. Writes a line for each moment, the
 // head as it was and after each entry of the journal, and then the answer. The files stay as they are.
 mod answer;
-mod files;
-mod line;
+mod answers;
 
 // One more than a call takes, so that a longer file of answers is refused.
 const ANSWERS: usize = 4097;
@@ -14,8 +13,8 @@ fn show(buffer: &mut [u8], entries: &[u32]) {
     if admitted.refusal != 0 {
         return;
     }
-    line::heading();
-    line::first(admitted.head);
+    moment_line::heading();
+    moment_line::first(admitted.head);
     let mut i = 0;
     while i < entries.len() {
         let entry = entries[i];
@@ -29,10 +28,10 @@ fn show(buffer: &mut [u8], entries: &[u32]) {
 fn show_next(number: u64, entry: u32, buffer: &[u8]) {
     let admitted = call::admit_head(buffer);
     if admitted.refusal != 0 {
-        line::unread(number, entry);
+        moment_line::unread(number, entry);
         return;
     }
-    line::next(number, entry, admitted.head);
+    moment_line::next(number, entry, admitted.head);
 }
 
 // The change is made on `copy`, and `kept` has the same bytes.
@@ -46,12 +45,12 @@ fn change(copy: &mut [u8], kept: &mut [u8], plan: &[u8], answers: &[u16]) {
 
 fn run() {
     let mut head = io::buffer();
-    let head_bytes = files::read(1, &mut head);
+    let head_bytes = argument_file::read(1, &mut head);
     let mut copy = head;
     let mut plan = io::buffer();
-    let plan_bytes = files::read(2, &mut plan);
+    let plan_bytes = argument_file::read(2, &mut plan);
     let mut answers = [0u16; ANSWERS];
-    let count = files::answers(&mut answers);
+    let count = answers::read(&mut answers);
     change(
         &mut copy[..head_bytes],
         &mut head[..head_bytes],

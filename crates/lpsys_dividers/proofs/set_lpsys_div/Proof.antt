@@ -1,7 +1,7 @@
 -- `lpsys_dividers::set_lpsys_div` meets its contract: exponents that are not refused fit their register. Assumes nothing.
 use mathlib.Core.Path.{sym, _∙_}
 use Rattle.lpsys_dividers.specs.Dividers.{setLpsysDiv}
-use Rattle.lpsys_dividers.proofs.Fits.{div-fits}
+use Rattle.lpsys_words.proofs.Fits.{div-fits}
 use borrow.Author.Needs.{needs}
 use Rattle.lpsys_dividers.proofs.set_lpsys_div.Statement.{statement}
 use Rattle.lpsys_dividers.proofs.set_lpsys_div.Tie as tie
@@ -9,11 +9,11 @@ use Rattle.lpsys_dividers.proofs.set_lpsys_div.Tie as tie
 div-refusal-requires : tie.Need-div-refusal-requires
 div-refusal-requires c κs = search needs
 
-word-requires : tie.Need-word-requires
-word-requires c κs = search needs
+div-word-requires : tie.Need-div-word-requires
+div-word-requires c κs = search needs
 
 store-once-requires : tie.Need-store-once-requires
-store-once-requires c κs = (search needs, λ z. rw (c .before .before .word .ensures) (div-fits _ _ _ (search needs) (sym (c .before .before .before .div-refusal .ensures) ∙ z)))
+store-once-requires c κs = (search needs, λ z. rw (c .before .before .div-word .ensures) (div-fits _ _ _ (search needs) (sym (c .before .before .before .div-refusal .ensures) ∙ z)))
 
 same-length : tie.Need-same-length
 same-length c = search needs
@@ -23,14 +23,14 @@ same-length-2 c = search needs
 
 returns : tie.Need-returns
 unfolding setLpsysDiv
-returns c = rw (c .before .before .before .before .before .before .before .word .ensures, c .before .before .before .before .before .before .before .before .div-refusal .ensures) at (c .before .before .before .before .store-once .ensures)
+returns c = rw (c .before .before .before .before .before .before .before .div-word .ensures, c .before .before .before .before .before .before .before .before .div-refusal .ensures) at (c .before .before .before .before .store-once .ensures)
 
 pub set-lpsys-div-spec : {M : Type 1} → statement M
 set-lpsys-div-spec =
     tie.close
     (tie.spec
     div-refusal-requires
-    word-requires
+    div-word-requires
     store-once-requires
     same-length
     same-length-2

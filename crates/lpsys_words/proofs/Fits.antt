@@ -10,7 +10,7 @@ use Rattle.record.proofs.Refusals.{not-refused}
 use Rattle.register.specs.Word.{wordOf}
 use Rattle.register.specs.Codes.{largest, fitsRegister}
 use Rattle.register.proofs.Fits.{word-fits}
-use Rattle.lpsys_dividers.specs.Dividers.{divRefusal}
+use Rattle.lpsys_words.specs.Words.{divRefusal}
 
 neither : (s t : Bool) → s || t ≡ false → (s ≡ false) × (t ≡ false)
 neither false false e = (e, e)

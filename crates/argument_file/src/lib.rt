@@ -1,4 +1,4 @@
-// The files that the arguments name.
+// The file that an argument names.
 ghost use Rattle.io.specs.Counts.{Counts};
 
 // Reads the file of an argument to the start of the buffer, and answers how many bytes came before
@@ -15,13 +15,4 @@ pub fn read(argument: usize, buffer: &mut [u8]) -> usize
     let count = io::read_full(fd, buffer);
     libc::close(fd);
     count
-}
-
-// The answers of the third argument's file, and none where there is no such argument.
-pub fn answers(answers: &mut [u16]) -> usize
-    ensures { λ r. ⌜ Counts r (now (answers .exit)) ⌝ }
-{
-    let mut bytes = io::large_buffer();
-    let count = read(3, &mut bytes);
-    moment::answers::words(&bytes[..count], answers)
 }

@@ -1,12 +1,12 @@
--- `init_first::swallow` meets its contract: a stop of 31 or 33 is told, and no longer one. Assumes nothing.
+-- `init_warning::swallow` meets its contract: a stop of 31 or 33 is told, and no longer one. Assumes nothing.
 use native.Mathlib.Omega.{arith}
 use mathlib.Core.Path.{_≡_, refl, sym, ap, _∙_}
 use mathlib.Core.Bool.{cond}
 use Rattle.journal.specs.declared.Machine.{Machine}
-use Rattle.init_first.specs.First.{isWarning, warning, swallowed}
+use Rattle.init_warning.specs.Warning.{isWarning, warning, swallowed}
 use borrow.Author.Needs.{needs}
-use Rattle.init_first.proofs.swallow.Statement.{statement}
-use Rattle.init_first.proofs.swallow.Tie as tie
+use Rattle.init_warning.proofs.swallow.Statement.{statement}
+use Rattle.init_warning.proofs.swallow.Tie as tie
 
 abbrev forgiven : Machine → Machine
 forgiven w = record { head = w .head; at = w .at; taken = w .taken; stop = cond (isWarning (w .stop)) 0 (w .stop) }

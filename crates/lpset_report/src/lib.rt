@@ -1,4 +1,4 @@
-// What the program writes.
+// What `lpset` writes.
 use clocks::MaybeHertz;
 use digits::hex::six_digits;
 use libc::STDERR_FILENO;

@@ -1,9 +1,9 @@
--- `lpset::report::steps` meets its contract. The loop's invariant: `i` is at most the number of entries. The measure is the rest of them. Assumes nothing.
+-- `lpset_report::steps` meets its contract. The loop's invariant: `i` is at most the number of entries. The measure is the rest of them. Assumes nothing.
 use Prim.Native.Nat.{_-_, _≤_}
 use lib.ListN.{length}
 use borrow.Author.Needs.{needs}
-use Rattle.lpset.proofs.report.steps.Statement.{statement}
-use Rattle.lpset.proofs.report.steps.Tie as tie
+use Rattle.lpset_report.proofs.steps.Statement.{statement}
+use Rattle.lpset_report.proofs.steps.Tie as tie
 
 abbrev Inv-loop : tie.InvT-loop
 Inv-loop entries i₀ i = i ≤ length entries

@@ -1,9 +1,7 @@
 // A moment's line: what was done, and what the head reads as then.
 ghost use Prim.Native.Nat.{_≤_};
 ghost use Rattle.head.specs.Encodable.{Encodable};
-use entry_words::columns;
-use entry_words::columns::Line;
-use entry_words::words;
+use columns::Line;
 use head::Head;
 use libc::STDOUT_FILENO;
 use moment::frequency;
@@ -64,8 +62,8 @@ fn put_hpsys(head: Head, line: &mut Line)
     put_hertz(rail::rail_limit(head), line, RAIL);
     put_supply(dvfs::is_hpsys_dvfs_mode_s(head), line, SUPPLY);
     let flash = head.regs[5];
-    words::put_source(register::b(flash), line, FLASH1);
-    words::put_source(register::c(flash), line, FLASH2);
+    store_words::put_source(register::b(flash), line, FLASH1);
+    store_words::put_source(register::c(flash), line, FLASH2);
 }
 
 fn put_lpsys(head: Head, line: &mut Line) {
@@ -111,7 +109,7 @@ pub fn first(head: Head)
 fn begun(number: u64, entry: u32) -> Line {
     let mut line = columns::blank();
     columns::put_number(number, &mut line, 0);
-    words::put_entry(entry, &mut line, WORDS);
+    entry_words::put_entry(entry, &mut line, WORDS);
     line
 }
 

@@ -1,9 +1,9 @@
--- `entry_words::columns::write` meets its contract. Assumes nothing.
+-- `columns::write` meets its contract. Assumes nothing.
 use mathlib.Core.Path.{sym}
 use lib.Seq.{length-take-le}
 use borrow.Author.Needs.{needs}
-use Rattle.entry_words.proofs.columns.write.Statement.{statement}
-use Rattle.entry_words.proofs.columns.write.Tie as tie
+use Rattle.columns.proofs.write.Statement.{statement}
+use Rattle.columns.proofs.write.Tie as tie
 
 array-share-prefix-line : tie.Need-array-share-prefix-line
 array-share-prefix-line c = search needs

@@ -1,8 +1,8 @@
--- `init_first::is_warning` meets its contract: the tests in their order. Assumes nothing.
+-- `init_warning::is_warning` meets its contract: the tests in their order. Assumes nothing.
 use mathlib.Core.Path.{refl}
 use borrow.Author.Tests.{eq-eqb, ne-eqb}
-use Rattle.init_first.proofs.is_warning.Statement.{statement}
-use Rattle.init_first.proofs.is_warning.Tie as tie
+use Rattle.init_warning.proofs.is_warning.Statement.{statement}
+use Rattle.init_warning.proofs.is_warning.Tie as tie
 
 returns : tie.Need-returns
 returns c = rw (eq-eqb _ _ (c .if1 .taken)) refl

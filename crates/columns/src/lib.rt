@@ -30,6 +30,12 @@ pub fn put_number(number: u64, line: &mut Line, at: usize) -> usize
     text::put_number(number, line, at)
 }
 
+// Puts a word, and a number behind it.
+pub fn put_level(word: &[u8], level: u32, line: &mut Line, at: usize) -> usize {
+    let at = put(word, line, at);
+    put_number(level as u64, line, at)
+}
+
 // Writes the line up to `end`, and a line feed.
 pub fn write(line: Line, end: usize)
     requires { ⌜ end ≤ 160 ⌝ }

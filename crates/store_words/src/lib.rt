@@ -1,19 +1,8 @@
-// What an entry does, in words.
-use crate::columns::Line;
-use crate::columns::put;
-use crate::columns::put_number;
+// What a store does, in words.
+use columns::Line;
+use columns::put;
+use columns::put_level;
 use digits::hex::six_digits;
-use moment::entry::number;
-use moment::entry::value;
-
-// The kind of a wait for DLL1.
-const DLL1: u32 = 3;
-
-// A word, and a number behind it.
-fn put_level(word: &[u8], level: u32, line: &mut Line, at: usize) -> usize {
-    let at = put(word, line, at);
-    put_number(level as u64, line, at)
-}
 
 fn put_core(select: u32, line: &mut Line, at: usize) -> usize {
     match select {
@@ -72,26 +61,6 @@ fn put_supply(value: u32, line: &mut Line, at: usize) -> usize {
     put(b"supply D", line, at)
 }
 
-fn put_delay(cycles: u32, line: &mut Line, at: usize) -> usize {
-    let at = put_level(b"delay ", cycles, line, at);
-    put(b" cycles", line, at)
-}
-
-// What was waited for, and the answers that it took.
-fn put_wait(value: u32, line: &mut Line, at: usize) -> usize {
-    let at = put(b"wait ", line, at);
-    let at = put_awaited(register::a(value), line, at);
-    let at = put_level(b", ", value % 65536, line, at);
-    put(b" answers", line, at)
-}
-
-fn put_awaited(kind: u32, line: &mut Line, at: usize) -> usize {
-    if kind == DLL1 {
-        return put(b"DLL1", line, at);
-    }
-    put_level(b"kind ", kind, line, at)
-}
-
 // A store that has no word of its own.
 fn put_register(number: u32, value: u32, line: &mut Line, at: usize) -> usize {
     let at = put_level(b"register ", number, line, at);
@@ -100,7 +69,7 @@ fn put_register(number: u32, value: u32, line: &mut Line, at: usize) -> usize {
 }
 
 // Of the registers that a guarded change stores.
-fn put_store(number: u32, value: u32, line: &mut Line, at: usize) -> usize {
+pub fn put_store(number: u32, value: u32, line: &mut Line, at: usize) -> usize {
     match number {
         1 => put_core(value, line, at),
         2 => put_dividers(value, line, at),
@@ -113,15 +82,5 @@ fn put_store(number: u32, value: u32, line: &mut Line, at: usize) -> usize {
         15 => put_level(b"buck of D ", value, line, at),
         16 => put_level(b"ldo of D ", value, line, at),
         _ => put_register(number, value, line, at),
-    }
-}
-
-pub fn put_entry(entry: u32, line: &mut Line, at: usize) -> usize {
-    let number = number(entry);
-    let value = value(entry);
-    match number {
-        48 => put_delay(value, line, at),
-        49 => put_wait(value, line, at),
-        _ => put_store(number, value, line, at),
     }
 }
