@@ -109,7 +109,7 @@ test-programs: $(PROGRAMS)
 	@tests/moments/run.sh
 
 test-oracle:
-	$(CARGO) test $(WITH_ORACLE) --lib
+	$(CARGO) test --quiet --offline --manifest-path oracle/Cargo.toml --lib
 
 oracle: $(LIBRARY)
 	$(CARGO) build $(WITH_ORACLE)
@@ -117,15 +117,15 @@ oracle: $(LIBRARY)
 compare: oracle
 	$(ORACLE) compare $(RANDOM_GROUPS)
 
-# Two halves that take about the same time, one for each of two cores.
+# Two halves that take about the same time, one for each of two cores; every answer of every call comes up.
 compare-quick:
 	@$(MAKE) --no-print-directory --output-sync -j2 compare-plans compare-heads
 
 compare-plans: oracle
-	$(ORACLE) compare --quick --only plan --only config --only tasks
+	$(ORACLE) compare --quick --count 30000 --only plan --only config --only tasks
 
 compare-heads: oracle
-	$(ORACLE) compare --quick --only heads --only lpsys --only change
+	$(ORACLE) compare --quick --count 30000 --only heads --only lpsys --only change
 
 evidence: oracle
 	@mkdir -p build

@@ -32,7 +32,7 @@ use Rattle.lpsys_read.specs.Lpsys.{lpsysSysOf, lpsysHclkOf}
 use Rattle.journal.specs.Run.{going, store, delay, poll, wait}
 use Rattle.dvfs.specs.Hpsys.{modeOf}
 use Rattle.dvfs_lpsys_modes.specs.Lpsys.{lpsysModeOf}
-use Rattle.dvfs_lpsys.specs.LpsysSwitch.{lpsysD2sFirst, lpsysS2dFirst, lpsysS2dSecond}
+use Rattle.lpsys_switch.specs.LpsysSwitch.{lpsysD2sFirst, lpsysS2dFirst, lpsysS2dSecond}
 use Rattle.hpsys_volts.specs.HpsysVolts.{vrefOf, sxModeVolt, timing}
 use Rattle.hpsys_switch.specs.HpsysSwitch.{d2sFirst, s2dFirst, s2dSecond}
 use Rattle.rail.specs.Rail.{met, higher, railLimit}

@@ -1,1 +1,1 @@
-pub mod LpsysSwitch
+pub mod LpsysModes

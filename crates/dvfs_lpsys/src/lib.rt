@@ -1,45 +1,9 @@
 // pmu/dvfs.rs: the halves of a supply transition of LPSYS, before and after the clock is set.
 ghost use mathlib.Core.Path.{_≡_};
 ghost use Rattle.journal.specs.Machine.{Ran, Ready, Kept};
-ghost use Rattle.dvfs_lpsys.specs.LpsysSwitch.{lpsysD2sFirst, lpsysS2dFirst, lpsysS2dSecond, lpsysFirst, lpsysSecond};
+ghost use Rattle.dvfs_lpsys.specs.LpsysModes.{lpsysFirst, lpsysSecond};
 use dvfs_lpsys_modes::LpsysDvfsMode;
 use journal::Machine;
-
-// The volts and the supply of S, before the clock rises.
-fn switch_lpsys_dvfs_d2s_first(m: Machine, journal: &mut [u32]) -> Machine
-    requires { ⌜ Ready 3 m (now journal) ⌝ }
-    ensures { λ r. ⌜ Ran lpsysD2sFirst m r (now (journal .entry)) (now (journal .exit)) ⌝ }
-    ensures { λ r. ⌜ Kept 3 m r ⌝ }
-    ensures { λ r. ⌜ r .taken ≡ m .taken ⌝ }
-{
-    let row = LpsysDvfsMode::S.get_config();
-    let m = m.store(journal, 29, row.ldo as u32);
-    let m = m.store(journal, 28, 1);
-    journal::delay_us(m, journal, 250)
-}
-
-// The volts of D, before the clock falls.
-fn switch_lpsys_dvfs_s2d_first(m: Machine, journal: &mut [u32]) -> Machine
-    requires { ⌜ Ready 1 m (now journal) ⌝ }
-    ensures { λ r. ⌜ Ran lpsysS2dFirst m r (now (journal .entry)) (now (journal .exit)) ⌝ }
-    ensures { λ r. ⌜ Kept 1 m r ⌝ }
-    ensures { λ r. ⌜ r .taken ≡ m .taken ⌝ }
-{
-    let config = LpsysDvfsMode::D.get_config();
-    m.store(journal, 30, config.ldo as u32)
-}
-
-// The timing and the supply of D, after the clock has fallen.
-fn switch_lpsys_dvfs_s2d_second(m: Machine, journal: &mut [u32]) -> Machine
-    requires { ⌜ Ready 2 m (now journal) ⌝ }
-    ensures { λ r. ⌜ Ran lpsysS2dSecond m r (now (journal .entry)) (now (journal .exit)) ⌝ }
-    ensures { λ r. ⌜ Kept 2 m r ⌝ }
-    ensures { λ r. ⌜ r .taken ≡ m .taken ⌝ }
-{
-    let row = LpsysDvfsMode::D.get_config();
-    let m = m.store(journal, 31, row.ulpmcr);
-    m.store(journal, 28, 0)
-}
 
 // `config_lpsys_dvfs` before the clock is set.
 pub fn config_lpsys_dvfs_first(
@@ -56,10 +20,10 @@ pub fn config_lpsys_dvfs_first(
     match current {
         LpsysDvfsMode::D => match target {
             LpsysDvfsMode::D => m,
-            LpsysDvfsMode::S => switch_lpsys_dvfs_d2s_first(m, journal),
+            LpsysDvfsMode::S => lpsys_switch::switch_lpsys_dvfs_d2s_first(m, journal),
         },
         LpsysDvfsMode::S => match target {
-            LpsysDvfsMode::D => switch_lpsys_dvfs_s2d_first(m, journal),
+            LpsysDvfsMode::D => lpsys_switch::switch_lpsys_dvfs_s2d_first(m, journal),
             LpsysDvfsMode::S => m,
         },
     }
@@ -80,7 +44,7 @@ pub fn config_lpsys_dvfs_second(
     match current {
         LpsysDvfsMode::D => m,
         LpsysDvfsMode::S => match target {
-            LpsysDvfsMode::D => switch_lpsys_dvfs_s2d_second(m, journal),
+            LpsysDvfsMode::D => lpsys_switch::switch_lpsys_dvfs_s2d_second(m, journal),
             LpsysDvfsMode::S => m,
         },
     }

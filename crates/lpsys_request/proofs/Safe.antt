@@ -6,7 +6,7 @@ use mathlib.Core.List.{List}
 use native.Mathlib.Omega.{arith}
 use native.Mathlib.Nat.{div-le-of-le-mul}
 use native.Mathlib.Decide.{decLe}
-use Rattle.dvfs_lpsys.specs.LpsysSwitch.{lpsysD2sFirst, lpsysS2dFirst, lpsysS2dSecond}
+use Rattle.lpsys_switch.specs.LpsysSwitch.{lpsysD2sFirst, lpsysS2dFirst, lpsysS2dSecond}
 use lib.Dec.{eqb}
 use lib.ListN.{length, getD, set, length-set}
 use lib.Seq.{getD-set-same, getD-set-other}

@@ -1,7 +1,7 @@
 -- The LPSYS request of rcc/clock_lpsys.rs, as an effect on a running call. Assumes nothing.
 use Prim.Native.Nat.{ℕ}
 use Rattle.journal.specs.Run.{Effect, _▸_}
-use Rattle.dvfs_lpsys.specs.LpsysSwitch.{lpsysFirst, lpsysSecond}
+use Rattle.dvfs_lpsys.specs.LpsysModes.{lpsysFirst, lpsysSecond}
 use Rattle.lpsys_modes.specs.Modes.{dividerFor, presentMode, requestMode}
 use Rattle.lpsys_hdiv.specs.Hdiv.{setHdiv}
 

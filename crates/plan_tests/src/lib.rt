@@ -53,13 +53,13 @@ fn frequency_refusal(p: Plan, sources: Sources, target: Target) -> u8
     if plan_limits::hclk_too_fast(hclk) {
         return 11;
     }
-    if plan_limits::pclk1_too_fast(hclk, pclk1) {
+    if bus_limits::pclk1_too_fast(hclk, pclk1) {
         return 12;
     }
-    if plan_limits::pclk2_too_fast(hclk, pclk2) {
+    if bus_limits::pclk2_too_fast(hclk, pclk2) {
         return 13;
     }
-    if plan_limits::dll2_too_fast(hclk, plan_clocks::dll_whole_freq(dll2)) {
+    if bus_limits::dll2_too_fast(hclk, plan_clocks::dll_whole_freq(dll2)) {
         return 14;
     }
     0

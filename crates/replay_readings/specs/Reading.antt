@@ -4,11 +4,11 @@ use mathlib.Core.Path.{_≡_}
 use mathlib.Core.List.{List, _++_}
 use lib.ListN.{replicate}
 use Rattle.verdict.specs.Verdict.{verdict, numberOf}
-use Rattle.load_check.specs.LoadCheck.{loadCheck}
 use Rattle.head_record.specs.Record.{headRefusal, headOf}
 use Rattle.head_clocks.specs.Clocks.{clocksOf, lpsysOf, unlessRefused}
 use Rattle.text.specs.Decimal.{numberField}
 use Rattle.text.specs.Hex.{byteField, wordField}
+use Rattle.load_text.specs.Load.{loadText}
 use Rattle.answered.specs.Answer.{unused}
 use Rattle.replay_readings.specs.declared.Reading.{Reading}
 use Rattle.replay_readings.specs.declared.Reading.the-variants.{Plan, Clocks, Lpsys, Load}
@@ -19,10 +19,6 @@ clocksText b = numberField (headRefusal b) ++ wordField (unlessRefused b (clocks
 
 abbrev pub lpsysText : List ℕ → List ℕ
 lpsysText b = numberField (headRefusal b) ++ wordField (unlessRefused b (lpsysOf (headOf b)) (replicate 6 unused))
-
--- the refusal or 0, and the load
-abbrev pub loadText : List ℕ → List ℕ
-loadText b = numberField (loadCheck b .refusal) ++ numberField (loadCheck b .load)
 
 -- what a reading of bytes answers; of a plan, 0 or the refusal
 abbrev pub answerText : Reading → List ℕ → List ℕ

@@ -6,7 +6,7 @@ ghost use mathlib.Core.Path.{_≡_};
 ghost use lib.ListN.{length};
 ghost use Rattle.text.specs.Text.{Puts};
 ghost use Rattle.answered.specs.Answer.{AnswerWithin};
-ghost use Rattle.replay_readings.specs.Reading.{clocksText, lpsysText, loadText, answerText, Recorded};
+ghost use Rattle.replay_readings.specs.Reading.{clocksText, lpsysText, answerText, Recorded};
 use answered::Outcome;
 
 pub enum Reading {
@@ -36,28 +36,16 @@ fn put_lpsys(head: &[u8], text: &mut [u8], at: usize) -> usize
     text::put_words(&lpsys, text, end)
 }
 
-fn put_load(list: &[u8], text: &mut [u8], at: usize) -> usize
-    requires { ⌜ at ≤ length (now text) ⌝ }
-    ensures { λ r. ⌜ Puts (loadText (now (list .entry))) (now (text .entry)) at (now (text .exit)) r ⌝ }
-{
-    let checked = load_check::load_check(list);
-    let end = text::put_after_blank(checked.refusal as u64, text, at);
-    text::put_after_blank(checked.load, text, end)
-}
-
 // Puts our answer.
 fn put_answer(reading: Reading, bytes: &[u8], text: &mut [u8], at: usize) -> usize
     requires { ⌜ at ≤ length (now text) ⌝ }
     ensures { λ r. ⌜ Puts (answerText reading (now (bytes .entry))) (now (text .entry)) at (now (text .exit)) r ⌝ }
 {
     match reading {
-        Reading::Plan => {
-            let planned = planned::admit(bytes);
-            text::put_after_blank(planned.refusal as u64, text, at)
-        }
+        Reading::Plan => text::put_after_blank(planned::check(bytes) as u64, text, at),
         Reading::Clocks => put_clocks(bytes, text, at),
         Reading::Lpsys => put_lpsys(bytes, text, at),
-        Reading::Load => put_load(bytes, text, at),
+        Reading::Load => load_text::put_load(bytes, text, at),
     }
 }
 

@@ -17,7 +17,8 @@ use Rattle.journal.specs.Run.{Run, begin, store, delay, _▸_}
 use Rattle.journal.proofs.Moments.{Moments, moments-begin, moments-now, moments-store, moments-delay}
 use Rattle.dvfs_lpsys_modes.specs.declared.LpsysDvfsMode.{LpsysDvfsMode}
 use Rattle.dvfs_lpsys_modes.specs.declared.LpsysDvfsMode.the-variants.{D, S}
-use Rattle.dvfs_lpsys.specs.LpsysSwitch.{lpsysD2sFirst, lpsysS2dFirst, lpsysS2dSecond, lpsysFirst, lpsysSecond}
+use Rattle.lpsys_switch.specs.LpsysSwitch.{lpsysD2sFirst, lpsysS2dFirst, lpsysS2dSecond}
+use Rattle.dvfs_lpsys.specs.LpsysModes.{lpsysFirst, lpsysSecond}
 use Rattle.lpsys_modes.specs.Modes.{dividerFor, presentMode, requestMode}
 use Rattle.lpsys_modes.proofs.Divider.{divider-small}
 use Rattle.lpsys_hdiv.specs.Hdiv.{setHdiv}

@@ -4,7 +4,7 @@ use mathlib.Core.Path.{refl, ap, _∙_}
 use Rattle.journal.specs.declared.Machine.{Machine}
 use Rattle.journal.specs.Run.{Run, _▸_}
 use Rattle.journal.proofs.Reached.{ran-as, ran-then}
-use Rattle.dvfs_lpsys.specs.LpsysSwitch.{lpsysFirst, lpsysSecond}
+use Rattle.dvfs_lpsys.specs.LpsysModes.{lpsysFirst, lpsysSecond}
 use Rattle.lpsys_modes.specs.Modes.{dividerFor, presentMode, requestMode}
 use Rattle.lpsys_hdiv.specs.Hdiv.{setHdiv}
 use Rattle.lpsys_request.specs.Request.{request}

@@ -6,8 +6,8 @@ use Rattle.replay_readings.proofs.put_answer.Tie as tie
 enum-told : tie.Need-enum-told
 enum-told c = search needs
 
-admit-requires : tie.Need-admit-requires
-admit-requires c κs = search needs
+check-requires : tie.Need-check-requires
+check-requires c κs = search needs
 
 cast-put-after-blank : tie.Need-cast-put-after-blank
 cast-put-after-blank c = search needs
@@ -37,7 +37,7 @@ same-length : tie.Need-same-length
 same-length c = search needs
 
 returns : tie.Need-returns
-returns c = rw (c .before .before .before .before .before .before .enum-told .given .1, ← c .before .before .before .before .before .admit .ensures .refusal-is) (c .before .before .put-after-blank .ensures)
+returns c = rw (c .before .before .before .before .before .enum-told .given .1, ← c .before .before .before .before .check .ensures) (c .before .before .put-after-blank .ensures)
 
 same-length-2 : tie.Need-same-length-2
 same-length-2 c = search needs
@@ -62,7 +62,7 @@ put-answer-spec =
     tie.close
     (tie.spec
     enum-told
-    admit-requires
+    check-requires
     cast-put-after-blank
     put-after-blank-requires
     enum-told-2

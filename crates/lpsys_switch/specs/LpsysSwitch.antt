@@ -1,5 +1,5 @@
 -- Supply transitions of LPSYS, pmu/dvfs.rs: "Closures passed to a transition become its first and second half." Assumes nothing.
-use Rattle.journal.specs.Run.{Effect, idle, _▸_, store, delay}
+use Rattle.journal.specs.Run.{Effect, _▸_, store, delay}
 use Rattle.dvfs_lpsys_modes.specs.declared.LpsysDvfsMode.{LpsysDvfsMode}
 use Rattle.dvfs_lpsys_modes.specs.declared.LpsysDvfsMode.the-variants.{D, S}
 use Rattle.dvfs_lpsys_modes.specs.Lpsys.{lpsysRowOf}
@@ -14,15 +14,3 @@ lpsysS2dFirst = store 30 (lpsysRowOf D .ldo)
 
 unfoldable pub lpsysS2dSecond : Effect
 lpsysS2dSecond = store 31 (lpsysRowOf D .ulpmcr) ▸ store 28 0
-
--- `config_lpsys_dvfs` before and after the clock, by the mode that it comes from and the one that it goes to
-abbrev pub lpsysFirst : LpsysDvfsMode → LpsysDvfsMode → Effect
-lpsysFirst D D = idle
-lpsysFirst D S = lpsysD2sFirst
-lpsysFirst S D = lpsysS2dFirst
-lpsysFirst S S = idle
-
-abbrev pub lpsysSecond : LpsysDvfsMode → LpsysDvfsMode → Effect
-lpsysSecond D target = idle
-lpsysSecond S D = lpsysS2dSecond
-lpsysSecond S S = idle

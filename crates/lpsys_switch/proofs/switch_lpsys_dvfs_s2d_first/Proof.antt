@@ -1,13 +1,13 @@
--- `dvfs_lpsys::switch_lpsys_dvfs_s2d_first` meets its contract. Assumes nothing.
+-- `lpsys_switch::switch_lpsys_dvfs_s2d_first` meets its contract. Assumes nothing.
 use Rattle.record.specs.Bytes.{isWithin}
 use Rattle.register.specs.Word.{wordBytes}
 use Rattle.register.specs.Codes.{fitsRegister, largest}
 use native.Mathlib.Omega.{arith}
 use mathlib.Core.Path.{refl, _∙_}
-use Rattle.dvfs_lpsys.specs.LpsysSwitch.{lpsysS2dFirst}
+use Rattle.lpsys_switch.specs.LpsysSwitch.{lpsysS2dFirst}
 use borrow.Author.Needs.{needs}
-use Rattle.dvfs_lpsys.proofs.switch_lpsys_dvfs_s2d_first.Statement.{statement}
-use Rattle.dvfs_lpsys.proofs.switch_lpsys_dvfs_s2d_first.Tie as tie
+use Rattle.lpsys_switch.proofs.switch_lpsys_dvfs_s2d_first.Statement.{statement}
+use Rattle.lpsys_switch.proofs.switch_lpsys_dvfs_s2d_first.Tie as tie
 
 get-config-requires : tie.Need-get-config-requires
 get-config-requires c κs = search needs

@@ -1,9 +1,9 @@
--- `replay_readings::put_load` meets its contract. Assumes nothing.
+-- `load_text::put_load` meets its contract. Assumes nothing.
 use Rattle.text.proofs.Putting.{puts-then}
 use native.Mathlib.Omega.{arith}
 use borrow.Author.Needs.{needs}
-use Rattle.replay_readings.proofs.put_load.Statement.{statement}
-use Rattle.replay_readings.proofs.put_load.Tie as tie
+use Rattle.load_text.proofs.put_load.Statement.{statement}
+use Rattle.load_text.proofs.put_load.Tie as tie
 
 load-check-requires : tie.Need-load-check-requires
 load-check-requires c κs = search needs

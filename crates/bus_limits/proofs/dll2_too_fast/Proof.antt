@@ -1,9 +1,9 @@
--- `plan_limits::dll2_too_fast` meets its contract. Assumes nothing.
+-- `bus_limits::dll2_too_fast` meets its contract. Assumes nothing.
 use borrow.Author.Tests.{not-true, not-false}
 use Rattle.plan_limits.specs.Limits.{dll2TooFast}
 use borrow.Author.Needs.{needs}
-use Rattle.plan_limits.proofs.dll2_too_fast.Statement.{statement}
-use Rattle.plan_limits.proofs.dll2_too_fast.Tie as tie
+use Rattle.bus_limits.proofs.dll2_too_fast.Statement.{statement}
+use Rattle.bus_limits.proofs.dll2_too_fast.Tie as tie
 
 is-fast-requires : tie.Need-is-fast-requires
 is-fast-requires c κs = search needs
