@@ -81,14 +81,12 @@ test_oracle() {
 # Whether this run has proved the library and the programs: rt writes these files then.
 has_proved() { [ -f target/stamp/rikkovan ] && [ -f target/log/lpset.stamp ] && [ -f target/log/moments.stamp ]; }
 
-# What uses the library and the programs, two parts at a time.
+# What uses the library and the programs, two parts at a time; the two halves of the comparison last, since they take about as long as each
+# other.
 test_proved() {
     local parts=(lib test-programs test-c test-fuzz)
-    if can_compare; then
-        parts=(lib test-programs compare-plans compare-heads test-c test-rust test-fuzz)
-    elif has_cargo; then
-        parts+=(test-rust)
-    fi
+    has_cargo && parts+=(test-rust)
+    can_compare && parts+=(compare-plans compare-heads)
     until has_proved; do sleep 1; done
     low_make -j2 --output-sync "${parts[@]}"
 }
