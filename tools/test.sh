@@ -78,16 +78,25 @@ test_oracle() {
     low_make test-oracle
 }
 
-# Whether this run has proved the library and the programs: rt writes these files then.
-has_proved() { [ -f target/stamp/rikkovan ] && [ -f target/log/lpset.stamp ] && [ -f target/log/moments.stamp ]; }
+# Waits for files that rt writes when it has proved a program or a library.
+await() { # FILE..
+    local file
+    for file; do
+        until [ -f "target/$file" ]; do sleep 1; done
+    done
+}
 
-# What uses the library and the programs, two parts at a time; the two halves of the comparison last, since they take about as long as each
-# other.
-test_proved() {
-    local parts=(lib test-programs test-c test-fuzz)
+test_programs() {
+    await log/lpset.stamp log/moments.stamp
+    low_make test-programs
+}
+
+# What uses the library, two parts at a time; the two halves of the comparison last, since they take about as long as each other.
+test_library() {
+    local parts=(lib test-c test-fuzz)
     has_cargo && parts+=(test-rust)
     can_compare && parts+=(compare-plans compare-heads)
-    until has_proved; do sleep 1; done
+    await log/lpset.stamp log/moments.stamp stamp/rikkovan
     low_make -j2 --output-sync "${parts[@]}"
 }
 
@@ -107,9 +116,11 @@ say_skipped
 stage 'list of crates' every_crate_is_listed
 rm -rf target
 begin oracle test_oracle
-begin proved test_proved
+begin programs test_programs
+begin library test_library
 stage 'rt ci' rt_ci
 stage 'tests of the oracle' end oracle
-stage 'tests of the library and the programs' end proved
+stage 'tests of the programs' end programs
+stage 'tests of the library' end library
 say "all passed ($SECONDS s)"
 tail -n 1 "$log"

@@ -4,12 +4,11 @@ use mathlib.Core.Path.{_≡_, refl, ap, sym, _∙_, subst}
 use mathlib.Core.Bool.{Bool, true, false, false≢true, cond, not, _&&_, _||_}
 use mathlib.Core.List.{List, [], _∷_, _++_}
 use native.Mathlib.Omega.{arith}
-use lib.Dec.{eqb, leb, ltb}
+use lib.Dec.{eqb, leb}
 use lib.ListN.{length}
 use borrow.Author.Tests.{eqb-true, eqb-false, eq-eqb, ne-eqb, ltb-false, leb-true}
 use Rattle.time.specs.declared.Hertz.{Hertz}
 use Rattle.record.specs.Bytes.{Bytes}
-use Rattle.record.proofs.Bytes.{or-left, or-right}
 use Rattle.record.specs.Refusals.{refuse, firstOf}
 use Rattle.record.proofs.Refusals.{none-at, not-refused, not-refused-unless, only-test, first-passes, first-append}
 use Rattle.plan.specs.declared.Plan.{Plan}
@@ -46,7 +45,8 @@ use Rattle.booking.proofs.Laws.{passed-load, passed-encodable}
 use Rattle.release.specs.Release.{releaseTests, release}
 use Rattle.release.proofs.Laws.{passed-has}
 use Rattle.lpsys_request.specs.Request.{request}
-use Rattle.lpsys_frequency.specs.Calls.{outOfRange, requestTests, lpsysRequest}
+use Rattle.lpsys_tests.proofs.Laws.{request-range}
+use Rattle.lpsys_frequency.specs.Calls.{requestTests, lpsysRequest}
 use Rattle.guard_change.specs.Change.{change}
 use Rattle.guard_safe.specs.Moment.{Ready, stopFor}
 use Rattle.guard_safe.proofs.View.{begun}
@@ -82,9 +82,7 @@ module _ (b : List ℕ) (fit : FitHead b) (ts : List Task) (holds : booked (head
 
   -- LPSYS requests
   in-range : (f : ℕ) (j : List ℕ) → firstOf (journalTests b j ++ requestTests f) ≡ 0 → (1 ≤ f) × (f ≤ 48)
-  in-range f j e =
-      let out = not-refused 14 (outOfRange f) (none-at (journalTests b j ++ requestTests f) e 2) in
-      (omega (arith, eqb-false f 0 (or-left (eqb f 0) (ltb 48 f) out)), ltb-false 48 f (or-right (eqb f 0) (ltb 48 f) out))
+  in-range f j e = request-range f (none-at (journalTests b j ++ requestTests f) e 2)
 
   pub requests : (f : ℕ) (j : List ℕ) → Fine b (requesting f j) (lpsysRequest f b j) ts
   unfolding lpsysRequest

@@ -4,7 +4,7 @@ use mathlib.Core.List.{List, [], _∷_}
 use Rattle.register.specs.Word.{wordOf}
 use Rattle.journal.specs.Run.{store}
 use Rattle.call.specs.Call.{Result, journalCall}
-use Rattle.lpsys_words.specs.Words.{divRefusal}
+use Rattle.lpsys_tests.specs.Tests.{divRefusal}
 use Rattle.lpsys_hdiv.specs.Hdiv.{setHdiv}
 
 -- `set_lpsys_hdiv`

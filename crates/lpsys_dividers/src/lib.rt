@@ -24,7 +24,7 @@ pub fn set_lpsys_div(
 ) -> Answer
     ensures { λ r. ⌜ Answers (setLpsysDiv hdiv pdiv1 pdiv2 (now (buffer .entry)) (now (journal .entry))) r (now (buffer .exit)) (now (journal .exit)) ⌝ }
 {
-    let refusal = lpsys_words::div_refusal(pdiv1, pdiv2);
+    let refusal = lpsys_tests::div_refusal(pdiv1, pdiv2);
     let word = lpsys_words::div_word(hdiv, pdiv1, pdiv2);
     call_store::store_once(buffer, refusal, 26, word, journal)
 }

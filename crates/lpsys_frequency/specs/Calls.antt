@@ -1,8 +1,7 @@
 -- What the calls that set the frequency of LPSYS leave, on the bytes lent to them. Assumes nothing.
 use Prim.Native.Nat.{ℕ}
-use mathlib.Core.Bool.{Bool, true, false, _||_}
+use mathlib.Core.Bool.{Bool, true, false}
 use mathlib.Core.List.{List, [], _∷_}
-use lib.Dec.{eqb, ltb}
 use Rattle.time.specs.declared.Reading.{Reading}
 use Rattle.time.specs.declared.Reading.the-variants.{At, Unreadable}
 use Rattle.time.specs.Frequency.{hzOr}
@@ -10,15 +9,13 @@ use Rattle.record.specs.Refusals.{refuse}
 use Rattle.head_record.specs.Record.{headOf}
 use Rattle.lpsys_read.specs.Lpsys.{lpsysHclkOf}
 use Rattle.call.specs.Call.{Result, journalCall}
+use Rattle.lpsys_tests.specs.Tests.{requestRefusal}
 use Rattle.lpsys_request.specs.Request.{request}
 use Rattle.lpsys_slow.specs.Slow.{slowDown}
 
--- `config_lpsys_hclk_mhz`; "15 LPSYS request 0 or above 48"
-abbrev pub outOfRange : ℕ → Bool
-outOfRange f = eqb f 0 || ltb 48 f
-
+-- `config_lpsys_hclk_mhz`
 abbrev pub requestTests : ℕ → List ℕ
-requestTests f = refuse 15 (outOfRange f) ∷ []
+requestTests f = requestRefusal f ∷ []
 
 unfoldable pub lpsysRequest : ℕ → List ℕ → List ℕ → Result
 lpsysRequest f b j = journalCall (requestTests f) (request f) 0 b j

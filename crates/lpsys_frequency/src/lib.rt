@@ -14,11 +14,9 @@ pub fn config_lpsys_hclk_mhz(buffer: &mut [u8], freq: Megahertz, journal: &mut [
         return Answer::refused(admitted.refusal);
     }
     let mhz = freq.0;
-    if mhz == 0 {
-        return Answer::refused(15);
-    }
-    if 48 < mhz {
-        return Answer::refused(15);
+    let refusal = lpsys_tests::request_refusal(mhz);
+    if refusal != 0 {
+        return Answer::refused(refusal);
     }
     let head = admitted.head;
     let m = lpsys_request::request(call::start(head), journal, mhz);

@@ -1,15 +1,11 @@
 -- What each setter of a source of rcc/clock_lpsys.rs leaves, on the bytes lent to it. Assumes nothing.
 use Prim.Native.Nat.{ℕ}
 use mathlib.Core.List.{List, [], _∷_}
-use lib.Dec.{ltb}
-use Rattle.record.specs.Refusals.{refuse}
 use Rattle.journal.specs.Run.{store}
 use Rattle.call.specs.Call.{Result, journalCall}
+use Rattle.lpsys_tests.specs.Tests.{sourceRefusal}
 
 -- `select_lpsys_sysclk` and `select_lpsys_peri`: a source, 0 HRC48 or 1 HXT48, in the register that selects it; 3 for any other
-abbrev pub sourceRefusal : ℕ → ℕ
-sourceRefusal source = refuse 3 (ltb 1 source)
-
 unfoldable pub select : ℕ → ℕ → List ℕ → List ℕ → Result
 select n source b j = journalCall (sourceRefusal source ∷ []) (store n source) 0 b j
 

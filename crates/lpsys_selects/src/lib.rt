@@ -4,25 +4,15 @@ ghost use mathlib.Core.Bool.{true};
 ghost use Prim.Native.Nat.{_<_};
 ghost use Rattle.register.specs.Codes.{fitsRegister};
 ghost use Rattle.call.specs.Call.{Answers};
-ghost use Rattle.lpsys_selects.specs.Selects.{sourceRefusal, select, selectSysclk, selectPeri};
+ghost use Rattle.lpsys_selects.specs.Selects.{select, selectSysclk, selectPeri};
 use call::Answer;
-
-// The test of a source.
-fn source_refusal(source: u8) -> u8
-    ensures { λ r. ⌜ r ≡ sourceRefusal source ⌝ }
-{
-    if 1 < source {
-        return 3;
-    }
-    0
-}
 
 // The source 0 or 1 in the register that selects it.
 fn select(buffer: &mut [u8], register: usize, source: u8, journal: &mut [u32]) -> Answer
     requires { ⌜ (register < 35) × ((fitsRegister register 0 ≡ true) × (fitsRegister register 1 ≡ true)) ⌝ }
     ensures { λ r. ⌜ Answers (select register source (now (buffer .entry)) (now (journal .entry))) r (now (buffer .exit)) (now (journal .exit)) ⌝ }
 {
-    let refusal = source_refusal(source);
+    let refusal = lpsys_tests::source_refusal(source);
     call_store::store_once(buffer, refusal, register, source as u32, journal)
 }
 

@@ -1,20 +1,6 @@
-// What the setters of rcc/clock_lpsys.rs store of dividers: the words of registers 26 and 34, and the test of the exponents.
+// What the setters of rcc/clock_lpsys.rs store of dividers: the words of registers 26 and 34.
 ghost use mathlib.Core.Path.{_≡_};
 ghost use Rattle.register.specs.Word.{wordOf};
-ghost use Rattle.lpsys_words.specs.Words.{divRefusal};
-
-// The test of the two exponents.
-pub fn div_refusal(pdiv1: u8, pdiv2: u8) -> u8
-    ensures { λ r. ⌜ r ≡ divRefusal pdiv1 pdiv2 ⌝ }
-{
-    if 7 < pdiv1 {
-        return 3;
-    }
-    if 7 < pdiv2 {
-        return 3;
-    }
-    0
-}
 
 pub fn div_word(hdiv: u8, pdiv1: u8, pdiv2: u8) -> u32
     ensures { λ r. ⌜ r ≡ wordOf hdiv pdiv1 pdiv2 ⌝ }

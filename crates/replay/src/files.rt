@@ -1,10 +1,11 @@
 // A file of records, replayed line by line.
 ghost use lib.ListN.{length};
 ghost use Rattle.answered.specs.Answer.{AnswerWithin};
+use crate::calls;
+use crate::calls::Call;
 use answered::Outcome;
 use lines::Line;
 use lines::Reader;
-use replay_calls::Call;
 use replay_readings::Reading;
 use replay_report::Tally;
 use replay_report::report;
@@ -23,7 +24,7 @@ fn compare(recorded: Recorded, name: &[u8], line: &[u8], text: &mut [u8]) -> Out
     ensures { λ r. ⌜ AnswerWithin r (length (now (text .entry))) ⌝ }
 {
     match recorded {
-        Recorded::Call(call) => replay_calls::call_line(call, name, line, text),
+        Recorded::Call(call) => calls::call_line(call, name, line, text),
         Recorded::Reading(reading) => replay_readings::reading_line(reading, name, line, text),
     }
 }

@@ -1,12 +1,13 @@
 // Replays recorded answers: those of the original Rust and, of load check, booking, release and the
 // guarded change, those of document 01. Each call has a file of its name, with a line for each time
-// that it was made: what it was given and what it answered (crates `replay_readings` and
-// `replay_calls`). Our answer to the same is compared with the recorded one, and of each file the
+// that it was made: what it was given and what it answered (crate `replay_readings`
+// and module `calls`). Our answer to the same is compared with the recorded one, and of each file the
 // program says how many lines differ.
+mod calls;
 mod files;
 
+use calls::Call;
 use files::Recorded;
-use replay_calls::Call;
 use replay_readings::Reading;
 
 fn readings() {

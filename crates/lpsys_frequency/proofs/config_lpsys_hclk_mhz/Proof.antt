@@ -1,11 +1,10 @@
 -- `lpsys_frequency::config_lpsys_hclk_mhz` meets its contract: the shared tests, 15, then the request. Assumes nothing.
 use Rattle.call.proofs.Admitting.{journal-room, started}
-use Prim.Native.Nat.{_≤_}
 use native.Mathlib.Omega.{arith}
-use mathlib.Core.Path.{refl, sym}
-use borrow.Author.Tests.{eq-eqb, ne-eqb, lt-ltb, le-ltb}
-use Rattle.record.specs.Refusals.{firstOf}
-use Rattle.call.proofs.Ending.{call-unadmitted, call-refused, call-ran, call-encodable, call-bytes}
+use mathlib.Core.Path.{sym, _∙_}
+use Rattle.record.proofs.Refusals.{only-test}
+use Rattle.call.proofs.Ending.{call-unadmitted, call-refused-by, call-ran, call-encodable, call-bytes}
+use Rattle.lpsys_tests.proofs.Laws.{request-range}
 use Rattle.lpsys_frequency.specs.Calls.{requestTests, lpsysRequest}
 use borrow.Author.Needs.{needs}
 use Rattle.lpsys_frequency.proofs.config_lpsys_hclk_mhz.Statement.{statement}
@@ -27,6 +26,9 @@ returns : tie.Need-returns
 unfolding lpsysRequest
 returns c = call-unadmitted (c .before .before .before .admit .ensures) _ _ _ _ _ (c .before .if1 .taken) (c .refused .ensures)
 
+request-refusal-requires : tie.Need-request-refusal-requires
+request-refusal-requires c κs = search needs
+
 refused-requires-2 : tie.Need-refused-requires-2
 refused-requires-2 c κs = search needs
 
@@ -37,11 +39,18 @@ same-length-4 : tie.Need-same-length-4
 same-length-4 c = search needs
 
 returns-2 : tie.Need-returns-2
-unfolding lpsysRequest firstOf
-returns-2 c = call-refused (c .before .before .before .before .admit .ensures) (requestTests (c .before .before .before .before .before .before .before .before .before .args .freq .0)) 14 _ _ _ _ (c .before .before .if1 .left) (simp (eq-eqb _ _ (c .before .if2 .taken))) (c .refused2 .ensures)
+unfolding lpsysRequest
+returns-2 c = call-refused-by (c .before .before .before .before .before .admit .ensures) (requestTests (c .before .before .before .before .before .before .before .before .before .before .args .freq .0)) _ _ _ _ _ (c .before .before .before .if1 .left) (only-test _ ∙ sym (c .before .before .request-refusal .ensures)) (c .before .if2 .taken) (c .refused2 .ensures)
 
-refused-requires-3 : tie.Need-refused-requires-3
-refused-requires-3 c κs = search needs
+start-requires : tie.Need-start-requires
+start-requires c κs = search needs
+
+request-requires : tie.Need-request-requires
+request-requires c κs =
+    (started 6 _ _ _ (c .before .start .ensures) (call-encodable (c .before .before .before .before .before .before .before .admit .ensures) (c .before .before .before .before .before .if1 .left)) (omega arith) (journal-room (c .before .before .before .before .before .before .before .before .before .before .before .before .args .buffer .now) (c .before .before .before .before .before .before .before .before .before .before .before .before .args .journal .now) (c .before .before .before .before .before .before .before .admit .ensures) (c .before .before .before .before .before .if1 .left)), request-range _ (sym (c .before .before .before .before .request-refusal .ensures) ∙ c .before .before .before .if2 .left))
+
+finish-requires : tie.Need-finish-requires
+finish-requires c κs = (c .before .before .before .request .ensures .1 .0 .encodable, call-bytes (c .before .before .before .before .before .before .before .before .before .before .before .admit .ensures) (c .before .before .before .before .before .before .before .before .before .if1 .left))
 
 same-length-5 : tie.Need-same-length-5
 same-length-5 c = search needs
@@ -50,29 +59,9 @@ same-length-6 : tie.Need-same-length-6
 same-length-6 c = search needs
 
 returns-3 : tie.Need-returns-3
-unfolding lpsysRequest firstOf
-returns-3 c = call-refused (c .before .before .before .before .before .admit .ensures) (requestTests (c .before .before .before .before .before .before .before .before .before .before .args .freq .0)) 14 _ _ _ _ (c .before .before .before .if1 .left) (simp (ne-eqb _ _ (c .before .before .if2 .left), lt-ltb _ _ (c .before .if3 .taken))) (c .refused3 .ensures)
-
-start-requires : tie.Need-start-requires
-start-requires c κs = search needs
-
-request-requires : tie.Need-request-requires
-request-requires c κs =
-    (started 6 _ _ _ (c .before .start .ensures) (call-encodable (c .before .before .before .before .before .before .before .admit .ensures) (c .before .before .before .before .before .if1 .left)) (omega arith) (journal-room (c .before .before .before .before .before .before .before .before .before .before .before .before .args .buffer .now) (c .before .before .before .before .before .before .before .before .before .before .before .before .args .journal .now) (c .before .before .before .before .before .before .before .admit .ensures) (c .before .before .before .before .before .if1 .left)), (search needs, search needs))
-
-finish-requires : tie.Need-finish-requires
-finish-requires c κs = (c .before .before .before .request .ensures .1 .0 .encodable, call-bytes (c .before .before .before .before .before .before .before .before .before .before .before .admit .ensures) (c .before .before .before .before .before .before .before .before .before .if1 .left))
-
-same-length-7 : tie.Need-same-length-7
-same-length-7 c = search needs
-
-same-length-8 : tie.Need-same-length-8
-same-length-8 c = search needs
-
-returns-4 : tie.Need-returns-4
-unfolding lpsysRequest firstOf
-returns-4 c =
-    call-ran (c .before .before .before .before .before .before .before .before .before .before .before .before .before .before .admit .ensures) (requestTests (c .before .before .before .before .before .before .before .before .before .before .before .before .before .before .before .before .before .before .before .args .freq .0)) _ _ _ _ _ _ _ _ (c .before .before .before .before .before .before .before .before .before .before .before .before .if1 .left) (simp (ne-eqb _ _ (c .before .before .before .before .before .before .before .before .before .before .before .if2 .left), le-ltb _ _ (c .before .before .before .before .before .before .before .before .before .before .if3 .left))) (c .before .before .before .before .before .before .before .before .start .ensures) (c .before .before .before .before .before .before .request .ensures .0) (c .before .before .finish .ensures)
+unfolding lpsysRequest
+returns-3 c =
+    call-ran (c .before .before .before .before .before .before .before .before .before .before .before .before .before .before .admit .ensures) (requestTests (c .before .before .before .before .before .before .before .before .before .before .before .before .before .before .before .before .before .before .before .args .freq .0)) _ _ _ _ _ _ _ _ (c .before .before .before .before .before .before .before .before .before .before .before .before .if1 .left) (only-test _ ∙ sym (c .before .before .before .before .before .before .before .before .before .before .before .request-refusal .ensures) ∙ c .before .before .before .before .before .before .before .before .before .before .if2 .left) (c .before .before .before .before .before .before .before .before .start .ensures) (c .before .before .before .before .before .before .request .ensures .0) (c .before .before .finish .ensures)
 
 pub config-lpsys-hclk-mhz-spec : {M : Type 1} → statement M
 config-lpsys-hclk-mhz-spec =
@@ -83,17 +72,14 @@ config-lpsys-hclk-mhz-spec =
     same-length
     same-length-2
     returns
+    request-refusal-requires
     refused-requires-2
     same-length-3
     same-length-4
     returns-2
-    refused-requires-3
-    same-length-5
-    same-length-6
-    returns-3
     start-requires
     request-requires
     finish-requires
-    same-length-7
-    same-length-8
-    returns-4)
+    same-length-5
+    same-length-6
+    returns-3)

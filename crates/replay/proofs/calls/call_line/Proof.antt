@@ -1,12 +1,12 @@
--- `replay_calls::call_line` meets its contract: the fields are the line's. Assumes nothing.
+-- `replay::calls::call_line` meets its contract: the fields are the line's. Assumes nothing.
 use lib.ListN.{length-take}
 use lib.Seq.{length-take-le}
 use native.Mathlib.Omega.{arith}
 use mathlib.Core.Path.{sym}
 use Prim.Native.Nat.{_/_}
 use borrow.Author.Needs.{needs}
-use Rattle.replay_calls.proofs.call_line.Statement.{statement}
-use Rattle.replay_calls.proofs.call_line.Tie as tie
+use Rattle.replay.proofs.calls.call_line.Statement.{statement}
+use Rattle.replay.proofs.calls.call_line.Tie as tie
 
 slice-aggregate-decode : tie.Need-slice-aggregate-decode
 slice-aggregate-decode c = search needs
@@ -50,32 +50,35 @@ array-share-prefix-argument c = search needs
 slice-aggregate-run-line : tie.Need-slice-aggregate-run-line
 slice-aggregate-run-line c = sym (length-take-le _ _ (omega (arith, (c .before .before .before .before .before .before .before .before .before .before .before .before .before .before .before .decode .ensures), (c .before .before .before .before .before .before .before .before .before .before .before .before .before .before .before .decode .kept .1 .1 .0))))
 
-array-borrow-prefix-buffer : tie.Need-array-borrow-prefix-buffer
-array-borrow-prefix-buffer c = search needs
+array-share-prefix-buffer : tie.Need-array-share-prefix-buffer
+array-share-prefix-buffer c = search needs
 
 slice-aggregate-run-line-2 : tie.Need-slice-aggregate-run-line-2
 slice-aggregate-run-line-2 c = sym (length-take-le _ _ (omega (arith, (c .before .before .before .before .before .before .before .before .before .before .before .before .before .decode2 .ensures), (c .before .before .before .before .before .before .before .before .before .before .before .before .before .decode2 .kept .1 .1 .0))))
 
+array-borrow-prefix-left : tie.Need-array-borrow-prefix-left
+array-borrow-prefix-left c = search needs
+
+slice-aggregate-run-line-3 : tie.Need-slice-aggregate-run-line-3
+slice-aggregate-run-line-3 c = sym (length-take-le _ _ (omega (arith, (c .before .before .before .before .before .before .before .before .before .before .before .before .before .before .decode2 .ensures), (c .before .before .before .before .before .before .before .before .before .before .before .before .before .before .decode2 .kept .1 .1 .0))))
+
 array-share-prefix-answers-2 : tie.Need-array-share-prefix-answers-2
 array-share-prefix-answers-2 c = search needs
 
-slice-aggregate-run-line-3 : tie.Need-slice-aggregate-run-line-3
-slice-aggregate-run-line-3 c = sym (length-take-le _ _ (omega (arith, (c .before .before .before .before .before .before .before .before .before .before .before .decode3 .ensures), (c .before .before .before .before .before .before .before .before .before .before .before .decode3 .kept .1 .1 .0))))
+slice-aggregate-run-line-4 : tie.Need-slice-aggregate-run-line-4
+slice-aggregate-run-line-4 c = sym (length-take-le _ _ (omega (arith, (c .before .before .before .before .before .before .before .before .before .before .before .before .decode3 .ensures), (c .before .before .before .before .before .before .before .before .before .before .before .before .decode3 .kept .1 .1 .0))))
 
 array-share-prefix-words : tie.Need-array-share-prefix-words
 array-share-prefix-words c = search needs
 
-slice-aggregate-run-line-4 : tie.Need-slice-aggregate-run-line-4
-slice-aggregate-run-line-4 c = sym (length-take-le _ _ (omega (arith, (c .before .before .before .before .before .join .ensures), (c .before .before .before .before .before .join .kept .1 .0))))
+slice-aggregate-run-line-5 : tie.Need-slice-aggregate-run-line-5
+slice-aggregate-run-line-5 c = sym (length-take-le _ _ (omega (arith, (c .before .before .before .before .before .before .join .ensures), (c .before .before .before .before .before .before .join .kept .1 .0))))
 
 slice-aggregate-clocks-in : tie.Need-slice-aggregate-clocks-in
 slice-aggregate-clocks-in c = search needs
 
 clocks-in-requires : tie.Need-clocks-in-requires
 clocks-in-requires c κs = search needs
-
-lent-clocks-requires : tie.Need-lent-clocks-requires
-lent-clocks-requires c κs = search needs
 
 run-line-requires : tie.Need-run-line-requires
 run-line-requires c κs = search needs
@@ -86,7 +89,7 @@ same-length c = search needs
 returns : tie.Need-returns
 returns c =
     let run = c .before .before .before .run-line in
-    (run .ensures .0, λ e. record { argument = _; buffer = _; answers = _; former = c .before .before .before .before .before .before .clocks-in .result; line-is = run .ensures .1 e })
+    (run .ensures .0, λ e. record { argument = _; buffer = _; answers = _; former = c .before .before .before .before .before .clocks-in .result; line-is = run .ensures .1 e })
 
 pub call-line-spec : {M : Type 1} → statement M
 call-line-spec =
@@ -106,15 +109,16 @@ call-line-spec =
     join-requires
     array-share-prefix-argument
     slice-aggregate-run-line
-    array-borrow-prefix-buffer
+    array-share-prefix-buffer
     slice-aggregate-run-line-2
-    array-share-prefix-answers-2
+    array-borrow-prefix-left
     slice-aggregate-run-line-3
-    array-share-prefix-words
+    array-share-prefix-answers-2
     slice-aggregate-run-line-4
+    array-share-prefix-words
+    slice-aggregate-run-line-5
     slice-aggregate-clocks-in
     clocks-in-requires
-    lent-clocks-requires
     run-line-requires
     same-length
     returns)

@@ -11,9 +11,9 @@ use Rattle.line_numbers.specs.Joined.{joined}
 use Rattle.given_text.specs.Given.{givenText}
 use Rattle.left_text.specs.Left.{leftText}
 use Rattle.config_call.proofs.Laws.{lent-most}
-use Rattle.replay_calls.specs.declared.Call.{Call}
-use Rattle.replay_calls.specs.declared.Call.the-variants.{Lpsys, Config, Tasks}
-use Rattle.replay_calls.specs.Line.{beside, lentClocks, resultOf, clocksAfter, lineOf}
+use Rattle.replay.specs.declared.calls.Call.{Call}
+use Rattle.replay.specs.declared.calls.Call.the-variants.{Lpsys, Config, Tasks}
+use Rattle.replay.specs.Line.{beside, lentClocks, resultOf, clocksAfter, lineOf}
 
 -- an answer's entries lie in the journal where those of its definition do
 pub within : {o : Result} {r : Answer} {b' j' : List ℕ} → Answers o r b' j' → o .entries ≤ length (o .journal) → r .entries ≤ length j'
@@ -32,9 +32,9 @@ shown-most (Lpsys call) = omega arith
 shown-most (Config call) = lent-most call
 shown-most (Tasks call) = omega arith
 
--- what is put of a call, given and left, is its line
-pub line-is : (call : Call) (name x b a former words b' j' clocks : List ℕ) (shown : ℕ) (r : Answer) → words ≡ joined a → shown ≡ lentClocks call →
-    Answers (resultOf call x b (replicate 128 unused) words) r b' j' → clocks ≡ clocksAfter call former x b (replicate 128 unused) words →
+-- what is put of a call on a copy of its buffer, given and left, is its line
+pub line-is : (call : Call) (name x b a former words copy b' j' clocks : List ℕ) (shown : ℕ) (r : Answer) → copy ≡ b → words ≡ joined a → shown ≡ lentClocks call →
+    Answers (resultOf call x copy (replicate 128 unused) words) r b' j' → clocks ≡ clocksAfter call former x copy (replicate 128 unused) words →
     givenText name x b a (take shown former) ++ leftText r b' j' (take shown clocks) ≡ lineOf call name x b a former
-line-is call name x b a former words b' j' clocks shown r w e h k =
-    rw (k, e, h .refusal, h .value, h .entries, h .taken, h .buffer, h .journal, w)
+line-is call name x b a former words copy b' j' clocks shown r l w e h k =
+    rw (k, e, h .refusal, h .value, h .entries, h .taken, h .buffer, h .journal, w, l)

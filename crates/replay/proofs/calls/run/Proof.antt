@@ -1,12 +1,12 @@
--- `replay_calls::run` meets its contract: each arm is the calls of one crate. Assumes nothing.
-use Rattle.replay_calls.proofs.Recording.{within, beside-answers, beside-within}
+-- `replay::calls::run` meets its contract: each arm is the calls of one crate. Assumes nothing.
+use Rattle.replay.proofs.Recording.{within, beside-answers, beside-within}
 use Rattle.replay_lpsys.proofs.Laws as lpsys
 use Rattle.replay_config.proofs.Laws as config
 use Rattle.replay_tasks.proofs.Laws as tasks
 use mathlib.Core.Path.{refl}
 use borrow.Author.Needs.{needs}
-use Rattle.replay_calls.proofs.run.Statement.{statement}
-use Rattle.replay_calls.proofs.run.Tie as tie
+use Rattle.replay.proofs.calls.run.Statement.{statement}
+use Rattle.replay.proofs.calls.run.Tie as tie
 use Rattle.replay_lpsys.proofs.run.Reads as run-reads′
 use Rattle.replay_tasks.proofs.run.Reads as run-reads′′
 

@@ -1,8 +1,8 @@
--- `lpsys_words::div_refusal` meets its contract: the tests pick the case. Assumes nothing.
+-- `lpsys_tests::div_refusal` meets its contract: the tests pick the case. Assumes nothing.
 use native.Mathlib.Omega.{arith}
 use borrow.Author.Tests.{lt-ltb, le-ltb}
-use Rattle.lpsys_words.proofs.div_refusal.Statement.{statement}
-use Rattle.lpsys_words.proofs.div_refusal.Tie as tie
+use Rattle.lpsys_tests.proofs.div_refusal.Statement.{statement}
+use Rattle.lpsys_tests.proofs.div_refusal.Tie as tie
 
 returns : tie.Need-returns
 returns c = simp (lt-ltb 7 (c .before .args .pdiv1) (omega arith))

@@ -9,7 +9,7 @@ ghost use lib.ListN.{length};
 ghost use Rattle.call.specs.Call.{Answers};
 ghost use Rattle.line_numbers.specs.Joined.{joined};
 ghost use Rattle.answered.specs.Answer.{AnswerWithin};
-ghost use Rattle.replay_calls.specs.Line.{lentClocks, resultOf, clocksAfter, lineOf, Recorded};
+ghost use Rattle.replay.specs.Line.{lentClocks, resultOf, clocksAfter, lineOf, Recorded};
 use answered::Outcome;
 use call::Answer;
 
@@ -49,29 +49,41 @@ fn run(
     }
 }
 
-// Runs a call, and compares the line with what it was given and left.
+// Runs a call on `left`, which holds the bytes of `buffer`, and compares the line with what it was given and left.
 fn run_line(
     call: Call,
     name: &[u8],
     argument: &[u8],
-    buffer: &mut [u8],
+    buffer: &[u8],
+    left: &mut [u8],
     answers: &[u8],
     words: &[u16],
     former: [u32; 15],
-    shown: usize,
     line: &[u8],
     text: &mut [u8],
 ) -> Outcome
-    requires { ⌜ (now words ≡ joined (now answers)) × (shown ≡ lentClocks call) ⌝ }
+    requires { ⌜ (now left ≡ now buffer) × (now words ≡ joined (now answers)) ⌝ }
     ensures { λ r. ⌜ AnswerWithin r (length (now (text .entry))) ⌝ }
     ensures { λ r. ⌜ (r ≡ Outcome.Same → now (line .entry) ≡ lineOf call (now (name .entry)) (now (argument .entry)) (now (buffer .entry)) (now (answers .entry)) former) ⌝ }
 {
-    let given = given_text::put_given(name, argument, buffer, answers, former, shown, text);
     let mut clocks = former;
     let mut journal = [answered::UNUSED; 128];
-    let answer = run(call, argument, &mut clocks, buffer, &mut journal, words);
-    let end = left_text::put_left(answer, buffer, &journal, clocks, shown, text, given);
-    answered::compare(line, &journal, answer.entries, text, given, end)
+    let answer = run(call, argument, &mut clocks, left, &mut journal, words);
+    let shown = lent_clocks(call);
+    call_compare::compare(
+        name,
+        argument,
+        buffer,
+        answers,
+        former,
+        answer,
+        left,
+        &journal,
+        clocks,
+        shown,
+        line,
+        text,
+    )
 }
 
 // Replays a line of a file of this name. The buffers have room for the bytes of any line of 4,096 digits.
@@ -92,15 +104,16 @@ pub fn call_line(call: Call, name: &[u8], line: &[u8], text: &mut [u8]) -> Outco
     let n = lent.count;
     let mut words = [0u16; 1024];
     let joined = line_numbers::join(&answers[..n], &mut words);
+    let mut left = buffer;
     run_line(
         call,
         name,
         &argument[..a],
-        &mut buffer[..b],
+        &buffer[..b],
+        &mut left[..b],
         &answers[..n],
         &words[..joined],
         line_numbers::clocks_in(&former),
-        lent_clocks(call),
         line,
         text,
     )

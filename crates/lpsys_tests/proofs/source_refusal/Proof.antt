@@ -1,8 +1,8 @@
--- `lpsys_selects::source_refusal` meets its contract: the test picks the case. Assumes nothing.
+-- `lpsys_tests::source_refusal` meets its contract: the test picks the case. Assumes nothing.
 use native.Mathlib.Omega.{arith}
 use borrow.Author.Tests.{lt-ltb, le-ltb}
-use Rattle.lpsys_selects.proofs.source_refusal.Statement.{statement}
-use Rattle.lpsys_selects.proofs.source_refusal.Tie as tie
+use Rattle.lpsys_tests.proofs.source_refusal.Statement.{statement}
+use Rattle.lpsys_tests.proofs.source_refusal.Tie as tie
 
 returns : tie.Need-returns
 returns c = simp (lt-ltb 1 (c .before .args .source) (omega arith))

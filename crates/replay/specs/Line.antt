@@ -12,8 +12,8 @@ use Rattle.config_call.specs.Clocks as clocks
 use Rattle.replay_lpsys.specs.Calls as lpsys
 use Rattle.replay_config.specs.Calls as config
 use Rattle.replay_tasks.specs.Calls as tasks
-use Rattle.replay_calls.specs.declared.Call.{Call}
-use Rattle.replay_calls.specs.declared.Call.the-variants.{Lpsys, Config, Tasks}
+use Rattle.replay.specs.declared.calls.Call.{Call}
+use Rattle.replay.specs.declared.calls.Call.the-variants.{Lpsys, Config, Tasks}
 
 -- what a call leaves that is lent no journal, where one lies beside it
 abbrev pub beside : List ℕ → Result → Result
