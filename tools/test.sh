@@ -119,6 +119,7 @@ begin oracle test_oracle
 begin programs test_programs
 begin library test_library
 stage 'rt ci' rt_ci
+stage 'why the must-fail edits were refused' tools/refusals.sh
 stage 'tests of the oracle' end oracle
 stage 'tests of the programs' end programs
 stage 'tests of the library' end library

@@ -1,7 +1,7 @@
 -- The tests of a fit head, as far as they are passed. Assumes nothing.
 use Prim.Native.Nat.{ℕ, _≤_, _<_}
-use mathlib.Core.Path.{_≡_, refl}
-use mathlib.Core.Bool.{true, false}
+use mathlib.Core.Path.{_≡_, _∙_}
+use mathlib.Core.Bool.{Bool, true, false, _&&_}
 use borrow.Author.Tests.{le-leb, lt-leb}
 use Rattle.time.specs.declared.Hertz.{Hertz}
 use Rattle.time.specs.declared.Reading.the-variants.{At, Unreadable}
@@ -12,15 +12,22 @@ use Rattle.lpsys_read.specs.Lpsys.{lpsysHclkOf}
 use Rattle.rail.specs.Rail.{railLimit}
 use Rattle.fit.specs.Fit.{within, lit, lpsysFit, fits}
 
+-- a test that fails decides, and one that passes leaves it to the rest
+fails : (a b : Bool) → a ≡ false → a && b ≡ false
+fails a b e = rw e
+
+passes : (a b : Bool) → a ≡ true → a && b ≡ b
+passes a b e = rw e
+
 module _ (h : Head) where
   pub unread : hclkOf h ≡ Unreadable → fits h ≡ false
   unfolding fits
-  unread e = rw e
+  unread e = fails (within (hclkOf h) (railLimit h)) _ (rw e)
 
   module _ (f : Hertz) (e : hclkOf h ≡ At f) where
     pub too-fast : railLimit h < f .0 → fits h ≡ false
     unfolding fits
-    too-fast l = rw (e, lt-leb (f .0) (railLimit h) l)
+    too-fast l = fails (within (hclkOf h) (railLimit h)) _ (rw (e, lt-leb (f .0) (railLimit h) l))
 
     pub carried : f .0 ≤ railLimit h → within (hclkOf h) (railLimit h) ≡ true
     carried l = rw e (le-leb (f .0) (railLimit h) l)
@@ -28,13 +35,13 @@ module _ (h : Head) where
   module _ (p : within (hclkOf h) (railLimit h) ≡ true) where
     pub first-dark : lit (byteB (reg h 5)) (reg h 3) (reg h 4) ≡ false → fits h ≡ false
     unfolding fits
-    first-dark e = rw (p, e)
+    first-dark e = passes _ _ p ∙ fails _ _ e
 
     module _ (q : lit (byteB (reg h 5)) (reg h 3) (reg h 4) ≡ true) where
       pub second-dark : lit (byteC (reg h 5)) (reg h 3) (reg h 4) ≡ false → fits h ≡ false
       unfolding fits
-      second-dark e = rw (p, q, e)
+      second-dark e = passes _ _ p ∙ (passes _ _ q ∙ fails _ _ e)
 
       pub rest : lit (byteC (reg h 5)) (reg h 3) (reg h 4) ≡ true → fits h ≡ lpsysFit (lpsysHclkOf h) (reg h 28)
       unfolding fits
-      rest e = rw (p, q, e)
+      rest e = passes _ _ p ∙ (passes _ _ q ∙ passes _ _ e)

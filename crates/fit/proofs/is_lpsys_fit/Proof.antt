@@ -18,13 +18,13 @@ returns : tie.Need-returns
 returns c = rw (sym (c .before .before .get-lpsys-hclk-freq .ensures) ∙ c .enum-told .given .1)
 
 returns-2 : tie.Need-returns-2
-returns-2 c = rw (sym (c .before .before .before .before .before .get-lpsys-hclk-freq .ensures) ∙ c .before .before .before .f .given .1, le-leb _ _ (c .if1 .taken))
+returns-2 c = rw (sym (c .before .before .before .before .before .get-lpsys-hclk-freq .ensures) ∙ c .before .before .before .f .given .1, le-leb _ 24000000 (c .if1 .taken))
 
 element-copy-out-result : tie.Need-element-copy-out-result
 element-copy-out-result c = search needs
 
 returns-3 : tie.Need-returns-3
-returns-3 c = rw (sym (c .before .before .before .before .before .before .get-lpsys-hclk-freq .ensures) ∙ c .before .before .before .before .f .given .1, lt-leb _ _ (c .before .if1 .left))
+returns-3 c = rw (sym (c .before .before .before .before .before .before .get-lpsys-hclk-freq .ensures) ∙ c .before .before .before .before .f .given .1, lt-leb _ 24000000 (c .before .if1 .left))
 
 pub is-lpsys-fit-spec : {M : Type 1} → statement M
 is-lpsys-fit-spec =

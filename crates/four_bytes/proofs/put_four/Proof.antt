@@ -46,7 +46,7 @@ same-length c = search needs
 
 returns : tie.Need-returns
 unfolding fourBytes
-returns c = rw (add-one, add-two, add-three) (laid-sets (c .args .at) (fourBytes (c .args .number)) (c .args .buffer .now) (omega arith))
+returns c = simp (add-one, add-two, add-three) (laid-sets (c .args .at) (fourBytes (c .args .number)) (c .args .buffer .now) (omega arith))
 
 pub put-four-spec : {M : Type 1} → statement M
 put-four-spec =

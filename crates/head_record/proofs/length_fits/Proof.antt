@@ -14,7 +14,7 @@ shared-slice-read-count c = search needs
 
 returns-2 : tie.Need-returns-2
 unfolding lengthFits
-returns-2 c = rw (eq-eqb _ _ (c .before .before .if1 .left), lt-leb _ _ (c .if2 .taken))
+returns-2 c = rw (eq-eqb _ _ (c .before .before .if1 .left), lt-leb _ 16 (c .if2 .taken))
 
 shared-slice-read-two-bytes : tie.Need-shared-slice-read-two-bytes
 shared-slice-read-two-bytes c = search needs
@@ -36,7 +36,7 @@ add-result c = search needs
 
 returns-3 : tie.Need-returns-3
 unfolding lengthFits
-returns-3 c = rw (eq-eqb _ _ (c .before .before .before .before .before .if1 .left), le-leb _ _ (c .before .before .before .if2 .left), c .two-bytes .ensures)
+returns-3 c = rw (eq-eqb _ _ (c .before .before .before .before .before .if1 .left), le-leb _ 16 (c .before .before .before .if2 .left), c .two-bytes .ensures)
 
 pub length-fits-spec : {M : Type 1} → statement M
 length-fits-spec =

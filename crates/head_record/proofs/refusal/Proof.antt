@@ -35,7 +35,7 @@ unfolding headRefusal firstOf
 returns-2 c =
     let b = c .before .before .before .before .before .args .buffer .now in
     let fits : lengthFits b ≡ true = sym (c .before .before .before .length-fits .ensures) ∙ not-false _ (c .before .before .if1 .left) in
-    rw (fits, ne-eqb _ _ (c .if2 .taken))
+    rw (fits, ne-eqb _ 1 (c .if2 .taken))
 
 within-requires : tie.Need-within-requires
 within-requires c κs =
@@ -49,7 +49,7 @@ returns-3 c =
     let b = c .before .before .before .before .before .before .before .args .buffer .now in
     let fits : lengthFits b ≡ true = sym (c .before .before .before .before .before .length-fits .ensures) ∙ not-false _ (c .before .before .before .before .if1 .left) in
     let fails : isWithin (take 105 (drop 3 b)) (drop 3 largest) ≡ false = sym (c .before .within .ensures) ∙ not-true _ (c .if3 .taken) in
-    rw (fits, eq-eqb _ _ (c .before .before .if2 .left), fails)
+    rw (fits, eq-eqb _ 1 (c .before .before .if2 .left), fails)
 
 fit-requires : tie.Need-fit-requires
 fit-requires c κs =
@@ -64,7 +64,7 @@ returns-4 c =
     let fits : lengthFits b ≡ true = sym (c .before .before .before .before .before .before .before .length-fits .ensures) ∙ not-false _ (c .before .before .before .before .before .before .if1 .left) in
     let codes : isWithin (take 105 (drop 3 b)) (drop 3 largest) ≡ true = sym (c .before .before .before .within .ensures) ∙ not-false _ (c .before .before .if3 .left) in
     let fails : tasksFit b ≡ false = sym (c .before .fit .ensures) ∙ not-true _ (c .if4 .taken) in
-    rw (fits, eq-eqb _ _ (c .before .before .before .before .if2 .left), codes, fails)
+    rw (fits, eq-eqb _ 1 (c .before .before .before .before .if2 .left), codes, fails)
 
 returns-5 : tie.Need-returns-5
 unfolding headRefusal firstOf
@@ -73,7 +73,7 @@ returns-5 c =
     let fits : lengthFits b ≡ true = sym (c .before .before .before .before .before .before .before .length-fits .ensures) ∙ not-false _ (c .before .before .before .before .before .before .if1 .left) in
     let codes : isWithin (take 105 (drop 3 b)) (drop 3 largest) ≡ true = sym (c .before .before .before .within .ensures) ∙ not-false _ (c .before .before .if3 .left) in
     let tasks : tasksFit b ≡ true = sym (c .before .fit .ensures) ∙ not-false _ (c .if4 .left) in
-    rw (fits, eq-eqb _ _ (c .before .before .before .before .if2 .left), codes, tasks)
+    rw (fits, eq-eqb _ 1 (c .before .before .before .before .if2 .left), codes, tasks)
 
 pub refusal-spec : {M : Type 1} → statement M
 refusal-spec =

@@ -17,7 +17,7 @@ element-copy-out-select c = search needs
 
 returns : tie.Need-returns
 unfolding startHxt48
-returns c = of-head (λ (h : Head). cond (eqb (reg h 1) 1) (store 22 1 ▸ waitHxt48 (c .before .before .before .before .before .args .answers .now)) idle) (rw (ne-eqb _ _ (c .if1 .taken)) (no-step 2 _ _ (c .before .before .before .before .before .pre .0 .encodable) (c .before .before .before .before .before .pre .1 .0)))
+returns c = of-head (λ (h : Head). cond (eqb (reg h 1) 1) (store 22 1 ▸ waitHxt48 (c .before .before .before .before .before .args .answers .now)) idle) (rw (ne-eqb _ 1 (c .if1 .taken)) (no-step 2 _ _ (c .before .before .before .before .before .pre .0 .encodable) (c .before .before .before .before .before .pre .1 .0)))
 
 store-requires : tie.Need-store-requires
 store-requires c κs = (search needs, (search needs, hxt48-fits))
@@ -30,7 +30,7 @@ same-length c = search needs
 
 returns-2 : tie.Need-returns-2
 unfolding startHxt48
-returns-2 c = of-head (λ (h : Head). cond (eqb (reg h 1) 1) (store 22 1 ▸ waitHxt48 (c .before .before .before .before .before .before .before .before .before .before .before .before .before .args .answers .now)) idle) (rw (eq-eqb _ _ (c .before .before .before .before .before .before .before .before .if1 .left)) (both (c .before .before .before .before .before .before .store .ensures) (c .before .before .wait-hxt48 .ensures)))
+returns-2 c = of-head (λ (h : Head). cond (eqb (reg h 1) 1) (store 22 1 ▸ waitHxt48 (c .before .before .before .before .before .before .before .before .before .before .before .before .before .args .answers .now)) idle) (rw (eq-eqb _ 1 (c .before .before .before .before .before .before .before .before .if1 .left)) (both (c .before .before .before .before .before .before .store .ensures) (c .before .before .wait-hxt48 .ensures)))
 
 pub start-hxt48-spec : {M : Type 1} → statement M
 start-hxt48-spec =

@@ -1,6 +1,8 @@
 -- `rail::rail_limit` meets its contract: by the supply. Assumes nothing.
 use mathlib.Core.Path.{sym, _∙_}
+use Rattle.clock_read.specs.Hpsys.{reg}
 use Rattle.rail.specs.Rail.{railLimit}
+use Rattle.rail.proofs.Supply.{on-s, on-d}
 use borrow.Author.Needs.{needs}
 use Rattle.rail.proofs.rail_limit.Statement.{statement}
 use Rattle.rail.proofs.rail_limit.Tie as tie
@@ -19,7 +21,9 @@ higher-requires c κs = search needs
 
 returns : tie.Need-returns
 unfolding railLimit
-returns c = rw (sym (c .before .before .is-hpsys-dvfs-mode-s .ensures) ∙ c .before .if1 .taken) (c .higher .ensures)
+returns c =
+    let h = c .before .before .before .before .args .h in
+    c .higher .ensures ∙ sym (on-s (reg h 12) (reg h 13) (reg h 14) (reg h 15) (reg h 16) (sym (c .before .before .is-hpsys-dvfs-mode-s .ensures) ∙ c .before .if1 .taken))
 
 array-read-higher-3 : tie.Need-array-read-higher-3
 array-read-higher-3 c = search needs
@@ -32,7 +36,9 @@ higher-requires-2 c κs = search needs
 
 returns-2 : tie.Need-returns-2
 unfolding railLimit
-returns-2 c = rw (sym (c .before .before .is-hpsys-dvfs-mode-s .ensures) ∙ c .before .if1 .left) (c .higher2 .ensures)
+returns-2 c =
+    let h = c .before .before .before .before .args .h in
+    c .higher2 .ensures ∙ sym (on-d (reg h 12) (reg h 13) (reg h 14) (reg h 15) (reg h 16) (sym (c .before .before .is-hpsys-dvfs-mode-s .ensures) ∙ c .before .if1 .left))
 
 pub rail-limit-spec : {M : Type 1} → statement M
 rail-limit-spec =

@@ -19,7 +19,7 @@ add-head c = search needs
 returns : tie.Need-returns
 returns c =
     let start = c .before .before .before in
-    rw (more-places (start .args .head) (start .pre .0) (start .args .task) (start .pre .1), more-count (start .args .head) (start .pre .0) (start .args .task))
+    rw (← more-places (start .args .head) (start .pre .0) (start .args .task) (start .pre .1), ← more-count (start .args .head) (start .pre .0) (start .args .task))
 
 pub with-task-spec : {M : Type 1} → statement M
 with-task-spec = tie.close (tie.spec cast-at mul-tasks array-set-from-tasks add-head returns)

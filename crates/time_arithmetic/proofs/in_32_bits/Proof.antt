@@ -1,4 +1,5 @@
 -- `time_arithmetic::in_32_bits` meets its contract: the test picks the case of `exact`. Assumes nothing.
+use native.Mathlib.Omega.{arith}
 use borrow.Author.Tests.{lt-ltb, le-ltb}
 use Rattle.time_arithmetic.specs.Arithmetic.{exact}
 use borrow.Author.Needs.{needs}
@@ -10,11 +11,11 @@ cast-t4 c = search needs
 
 returns : tie.Need-returns
 unfolding exact
-returns c = simp (lt-ltb _ _ (c .if1 .taken))
+returns c = simp (lt-ltb (c .before .args .hertz) 4294967296 (omega (arith, c .if1 .taken)))
 
 returns-2 : tie.Need-returns-2
 unfolding exact
-returns-2 c = simp (le-ltb _ _ (c .if1 .left))
+returns-2 c = simp (le-ltb (c .before .args .hertz) 4294967296 (omega (arith, c .if1 .left)))
 
 pub in-32-bits-spec : {M : Type 1} → statement M
 in-32-bits-spec = tie.close (tie.spec cast-t4 returns returns-2)
