@@ -46,7 +46,7 @@ pub fn refusal(p: Plan, target: Hertz, head: Head) -> u8
     requires { ⌜ target .0 ≡ hclkHz p ⌝ }
     ensures { λ r. ⌜ r ≡ firstOf (guardTests p head) ⌝ }
 {
-    if !fit::is_fit(head) {
+    if !fit_tests::is_fit(head) {
         return 37;
     }
     if is_unready(p, head) {

@@ -1,9 +1,9 @@
--- `fit::is_lit` meets its contract: the select decides. Assumes nothing.
+-- `fit_tests::is_lit` meets its contract: the select decides. Assumes nothing.
 use borrow.Author.Tests.{eq-eqb, ne-eqb}
 use Rattle.fit.specs.Fit.{lit}
 use borrow.Author.Needs.{needs}
-use Rattle.fit.proofs.is_lit.Statement.{statement}
-use Rattle.fit.proofs.is_lit.Tie as tie
+use Rattle.fit_tests.proofs.is_lit.Statement.{statement}
+use Rattle.fit_tests.proofs.is_lit.Tie as tie
 
 a-requires : tie.Need-a-requires
 a-requires c κs = search needs

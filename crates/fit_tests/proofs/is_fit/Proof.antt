@@ -1,13 +1,13 @@
--- `fit::is_fit` meets its contract: each test that led to a return decides its part of `fits`. Assumes nothing.
+-- `fit_tests::is_fit` meets its contract: each test that led to a return decides its part of `fits`. Assumes nothing.
 use Prim.Native.Nat.{ℕ}
 use mathlib.Core.Path.{sym, ap, _∙_}
 use borrow.Author.Tests.{not-true, not-false}
 use Rattle.clock_read.specs.Hpsys.{reg}
 use Rattle.fit.specs.Fit.{lit}
 use Rattle.fit.proofs.Tests.{unread, too-fast, carried, first-dark, second-dark, rest}
 use borrow.Author.Needs.{needs}
-use Rattle.fit.proofs.is_fit.Statement.{statement}
-use Rattle.fit.proofs.is_fit.Tie as tie
+use Rattle.fit_tests.proofs.is_fit.Statement.{statement}
+use Rattle.fit_tests.proofs.is_fit.Tie as tie
 
 get-hclk-freq-requires : tie.Need-get-hclk-freq-requires
 get-hclk-freq-requires c κs = search needs

@@ -1,9 +1,9 @@
--- `fit::is_lpsys_fit` meets its contract: the reading decides, then the supply. Assumes nothing.
+-- `fit_tests::is_lpsys_fit` meets its contract: the reading decides, then the supply. Assumes nothing.
 use mathlib.Core.Path.{sym, _∙_}
 use borrow.Author.Tests.{le-leb, lt-leb}
 use borrow.Author.Needs.{needs}
-use Rattle.fit.proofs.is_lpsys_fit.Statement.{statement}
-use Rattle.fit.proofs.is_lpsys_fit.Tie as tie
+use Rattle.fit_tests.proofs.is_lpsys_fit.Statement.{statement}
+use Rattle.fit_tests.proofs.is_lpsys_fit.Tie as tie
 
 get-lpsys-hclk-freq-requires : tie.Need-get-lpsys-hclk-freq-requires
 get-lpsys-hclk-freq-requires c κs = search needs
