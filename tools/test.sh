@@ -9,7 +9,16 @@ PATH=$PATH:${HOME:-/root}/.cargo/bin
 logs=$(mktemp -d)
 log=$logs/rt
 declare -A begun
-trap 'rm -rf "$logs"; kill "${begun[@]}" 2>/dev/null || true' EXIT
+trap leave EXIT
+
+# Ends what was begun and goes on yet, with all that it started.
+leave() {
+    local group
+    for group in "${begun[@]}"; do
+        kill -- "-$group" 2>/dev/null || true
+    done
+    rm -rf "$logs"
+}
 
 say() { printf 'test: %s\n' "$*"; }
 
@@ -55,9 +64,11 @@ has_cargo() { command -v cargo >/dev/null; }
 
 can_compare() { [ -d "$sources/sifli-hal/src" ] && has_cargo; }
 
-# Runs a command beside the others, on what they leave of the processors.
+# Runs a command beside the others, on what they leave of the processors, in a process group of its own.
 begin() { # NAME COMMAND..
+    set -m
     "${@:2}" >"$logs/$1" 2>&1 &
+    set +m
     begun[$1]=$!
 }
 
