@@ -1,14 +1,14 @@
 #!/usr/bin/env bash
-# Whether each must-fail edit that rt ci tried was refused by a fact: something that does not hold of the changed program. An edit that
-# only makes a proof fit no longer (a rewrite finds nothing, a name is gone) would be refused too, and would say nothing of the contract.
+# Finds the must-fail edits of rt ci of which the checker only says that a proof fits no longer: a rewrite finds nothing, a name is gone.
+# Such a refusal says nothing of the contract. What other words are worth is for the reader of the log.
 set -euo pipefail
 cd "$(dirname "$0")/.."
 
-by_fact() { # LOG
+says_more() { # LOG
     awk '
-        /it is not proved that/ { fact = 1 }
-        /: error: / && !/was not admitted|no occurrence of|no part of the goal|has an instance in the goal|has no field|can be named from here/ { fact = 1 }
-        END { exit !fact }' "$1"
+        /it is not proved that/ { more = 1 }
+        /: error: / && !/was not admitted|no occurrence of|no part of the goal|has an instance in the goal|has no field|can be named from here/ { more = 1 }
+        END { exit !more }' "$1"
 }
 
 count=0 others=0
@@ -17,9 +17,9 @@ for edit in crates/*/must-fail/*.edit; do
     crate=${crate%%/*}
     label=$(basename "$edit" .edit)
     count=$((count + 1))
-    by_fact "target/must-fail/$crate/$label/.log" && continue
-    echo "refusals: $crate/$label is not refused by a fact; see target/must-fail/$crate/$label/.log"
+    says_more "target/must-fail/$crate/$label/.log" && continue
+    echo "refusals: $crate/$label is refused only since a proof fits no longer; see target/must-fail/$crate/$label/.log"
     others=$((others + 1))
 done
-echo "refusals: $((count - others)) of $count must-fail edits are refused by a fact"
+echo "refusals: $((count - others)) of $count must-fail edits are refused for more than a proof that fits no longer"
 [ "$others" -eq 0 ]

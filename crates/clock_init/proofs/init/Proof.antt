@@ -25,7 +25,7 @@ same-length c = search needs
 
 returns : tie.Need-returns
 unfolding init initWarning
-returns c = let standby = eq-eqb _ 3 (c .if1 .taken) in of-head (λ (h : Head). initBegin (c .before .before .before .before .before .before .before .before .args .answers .now) ▸ cond (eqb (h .«boot_mode») 3) idle (boot (c .before .before .before .before .before .before .before .before .args .p) (c .before .before .before .before .before .before .before .before .args .answers .now))) (simp standby (ran-then (c .before .before .before .init-begin .ensures .0) (ran-idle _ _), (kept-within (omega arith) (c .before .before .before .init-begin .ensures .1 .0), record { told = λ r j₀ at. simp (sym (ap (λ (w : Machine). eqb (w .head .«boot_mode») 3) (at .machine)) ∙ standby) })))
+returns c = let standby = eq-eqb (c .before .before .before .before .before .before .before .before .args .m .head .«boot_mode») 3 (omega (arith, c .if1 .taken)) in of-head (λ (h : Head). initBegin (c .before .before .before .before .before .before .before .before .args .answers .now) ▸ cond (eqb (h .«boot_mode») 3) idle (boot (c .before .before .before .before .before .before .before .before .args .p) (c .before .before .before .before .before .before .before .before .args .answers .now))) (simp standby (ran-then (c .before .before .before .init-begin .ensures .0) (ran-idle _ _), (kept-within (omega arith) (c .before .before .before .init-begin .ensures .1 .0), record { told = λ r j₀ at. simp (sym (ap (λ (w : Machine). eqb (w .head .«boot_mode») 3) (at .machine)) ∙ standby) })))
 
 boot-requires : tie.Need-boot-requires
 boot-requires c κs = search needs

@@ -1,5 +1,6 @@
 -- `fit_tests::is_lpsys_fit` meets its contract: the reading decides, then the supply. Assumes nothing.
 use mathlib.Core.Path.{sym, _∙_}
+use native.Mathlib.Omega.{arith}
 use borrow.Author.Tests.{le-leb, lt-leb}
 use borrow.Author.Needs.{needs}
 use Rattle.fit_tests.proofs.is_lpsys_fit.Statement.{statement}
@@ -18,7 +19,7 @@ returns : tie.Need-returns
 returns c = rw (sym (c .before .before .get-lpsys-hclk-freq .ensures) ∙ c .enum-told .given .1)
 
 returns-2 : tie.Need-returns-2
-returns-2 c = rw (sym (c .before .before .before .before .before .get-lpsys-hclk-freq .ensures) ∙ c .before .before .before .f .given .1, le-leb _ 24000000 (c .if1 .taken))
+returns-2 c = rw (sym (c .before .before .before .before .before .get-lpsys-hclk-freq .ensures) ∙ c .before .before .before .f .given .1, le-leb (c .before .before .before .f .given .0 .0 .0) 24000000 (omega (arith, c .if1 .taken)))
 
 element-copy-out-result : tie.Need-element-copy-out-result
 element-copy-out-result c = search needs

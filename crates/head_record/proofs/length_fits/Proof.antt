@@ -1,5 +1,7 @@
 -- `head_record::length_fits` meets its contract: each test that led to a return decides its part. Assumes nothing.
 use borrow.Author.Tests.{eq-eqb, ne-eqb, le-leb, lt-leb}
+use native.Mathlib.Omega.{arith}
+use Rattle.task_bytes.specs.Tasks.{countIn}
 use Rattle.head_record.specs.Record.{lengthFits}
 use borrow.Author.Needs.{needs}
 use Rattle.head_record.proofs.length_fits.Statement.{statement}
@@ -36,7 +38,7 @@ add-result c = search needs
 
 returns-3 : tie.Need-returns-3
 unfolding lengthFits
-returns-3 c = rw (eq-eqb _ _ (c .before .before .before .before .before .if1 .left), le-leb _ 16 (c .before .before .before .if2 .left), c .two-bytes .ensures)
+returns-3 c = rw (eq-eqb _ _ (c .before .before .before .before .before .if1 .left), le-leb (countIn (c .before .before .before .before .before .before .before .args .buffer .now)) 16 (omega (arith, c .before .before .before .if2 .left)), c .two-bytes .ensures)
 
 pub length-fits-spec : {M : Type 1} → statement M
 length-fits-spec =

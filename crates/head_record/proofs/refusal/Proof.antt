@@ -3,7 +3,7 @@ use mathlib.Core.Path.{_≡_, sym, _∙_}
 use mathlib.Core.Bool.{true, false}
 use native.Mathlib.Omega.{arith}
 use borrow.Author.Tests.{eq-eqb, ne-eqb, not-true, not-false}
-use lib.ListN.{take, drop}
+use lib.ListN.{take, drop, getD}
 use Rattle.record.specs.Bytes.{isWithin}
 use Rattle.record.specs.Refusals.{firstOf}
 use Rattle.register.specs.Codes.{largest}
@@ -49,7 +49,7 @@ returns-3 c =
     let b = c .before .before .before .before .before .before .before .args .buffer .now in
     let fits : lengthFits b ≡ true = sym (c .before .before .before .before .before .length-fits .ensures) ∙ not-false _ (c .before .before .before .before .if1 .left) in
     let fails : isWithin (take 105 (drop 3 b)) (drop 3 largest) ≡ false = sym (c .before .within .ensures) ∙ not-true _ (c .if3 .taken) in
-    rw (fits, eq-eqb _ 1 (c .before .before .if2 .left), fails)
+    rw (fits, eq-eqb (getD b 2 0) 1 (omega (arith, c .before .before .if2 .left)), fails)
 
 fit-requires : tie.Need-fit-requires
 fit-requires c κs =

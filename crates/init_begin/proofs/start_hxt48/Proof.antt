@@ -8,6 +8,7 @@ use Rattle.journal.specs.Run.{idle, _▸_, store, waitHxt48}
 use Rattle.journal.proofs.Steps.{no-step, both, of-head}
 use Rattle.init_begin.specs.Begin.{startHxt48}
 use Rattle.init_begin.proofs.Fits.{hxt48-fits}
+use native.Mathlib.Omega.{arith}
 use borrow.Author.Needs.{needs}
 use Rattle.init_begin.proofs.start_hxt48.Statement.{statement}
 use Rattle.init_begin.proofs.start_hxt48.Tie as tie
@@ -30,7 +31,7 @@ same-length c = search needs
 
 returns-2 : tie.Need-returns-2
 unfolding startHxt48
-returns-2 c = of-head (λ (h : Head). cond (eqb (reg h 1) 1) (store 22 1 ▸ waitHxt48 (c .before .before .before .before .before .before .before .before .before .before .before .before .before .args .answers .now)) idle) (rw (eq-eqb _ 1 (c .before .before .before .before .before .before .before .before .if1 .left)) (both (c .before .before .before .before .before .before .store .ensures) (c .before .before .wait-hxt48 .ensures)))
+returns-2 c = of-head (λ (h : Head). cond (eqb (reg h 1) 1) (store 22 1 ▸ waitHxt48 (c .before .before .before .before .before .before .before .before .before .before .before .before .before .args .answers .now)) idle) (rw (eq-eqb (reg (c .before .before .before .before .before .before .before .before .before .before .before .before .before .args .m .head) 1) 1 (omega (arith, c .before .before .before .before .before .before .before .before .if1 .left))) (both (c .before .before .before .before .before .before .store .ensures) (c .before .before .wait-hxt48 .ensures)))
 
 pub start-hxt48-spec : {M : Type 1} → statement M
 start-hxt48-spec =

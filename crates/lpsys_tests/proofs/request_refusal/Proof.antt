@@ -5,7 +5,7 @@ use Rattle.lpsys_tests.proofs.request_refusal.Statement.{statement}
 use Rattle.lpsys_tests.proofs.request_refusal.Tie as tie
 
 returns : tie.Need-returns
-returns c = simp (eq-eqb _ _ (c .if1 .taken))
+returns c = simp (eq-eqb (c .before .args .mhz) 0 (omega (arith, c .if1 .taken)))
 
 returns-2 : tie.Need-returns-2
 returns-2 c = simp (ne-eqb _ _ (c .before .if1 .left), lt-ltb 48 (c .before .before .args .mhz) (omega arith))
