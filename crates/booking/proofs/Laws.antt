@@ -17,17 +17,17 @@ use Rattle.task.specs.declared.Task.{Task}
 use Rattle.task.specs.Task.{taskOk, hasId, distinct, InBytes}
 use Rattle.head.specs.declared.Head.{Head}
 use Rattle.head.specs.Head.{booked}
-use Rattle.head_record.specs.Record.{bufferBytes, headRefusal, headOf}
+use Rattle.head.specs.from_bytes.Record.{bufferBytes, headRefusal, headOf}
 use Rattle.head.specs.Encodable.{Encodable}
-use Rattle.head_record.proofs.Passed.{passed}
-use Rattle.head_record.proofs.Decoding.{decode-encodable}
+use Rattle.head.proofs.from_bytes.Passed.{passed}
+use Rattle.head.proofs.from_bytes.Decoding.{decode-encodable}
 use Rattle.clock_read.specs.Hpsys.{sysOf, hclkOf}
 use Rattle.load.specs.Load.{loadOf}
-use Rattle.tasks.specs.Tasks.{withTask}
-use Rattle.tasks.proofs.Holding.{booked-holding}
-use Rattle.tasks.proofs.Kept.{more-encodable}
+use Rattle.head.specs.tasks.{withTask}
+use Rattle.head.proofs.tasks.Holding.{booked-holding}
+use Rattle.head.proofs.tasks.Kept.{more-encodable}
 use Rattle.call.proofs.Changed.{head-passed, own-passed, left-head, refusal-first, refused-buffer}
-use Rattle.booking_tests.specs.Tests.{carried, bookTests}
+use Rattle.booking.specs.tests.{carried, bookTests}
 use Rattle.booking.specs.Booking.{book}
 
 -- a clock that carries a load is not below it

@@ -2,10 +2,10 @@
 use Prim.Native.Nat.{ℕ}
 use mathlib.Core.List.{List}
 use Rattle.task.specs.declared.Task.{Task}
-use Rattle.head_record.specs.Record.{headOf}
-use Rattle.tasks.specs.Tasks.{withTask}
+use Rattle.head.specs.from_bytes.Record.{headOf}
+use Rattle.head.specs.tasks.{withTask}
 use Rattle.call.specs.Call.{Result, headCall}
-use Rattle.booking_tests.specs.Tests.{bookTests}
+use Rattle.booking.specs.tests.{bookTests}
 
 -- "A booked task goes last"
 unfoldable pub book : Task → List ℕ → Result

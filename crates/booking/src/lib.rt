@@ -1,4 +1,7 @@
 // A booking: one task more on a head, within its clock.
+pub mod release;
+pub mod tests;
+
 ghost use mathlib.Core.List.{[]};
 ghost use Rattle.call.specs.Call.{Answers};
 ghost use Rattle.booking.specs.Booking.{book};
@@ -15,10 +18,10 @@ pub fn book(buffer: &mut [u8], id: u8, cycles: u32, period: u32) -> Answer
         return Answer::refused(admitted.refusal);
     }
     let head = admitted.head;
-    let refused = booking_tests::refusal(head, task);
+    let refused = tests::refusal(head, task);
     if refused != 0 {
         return Answer::refused(refused);
     }
-    let m = call::start(tasks::with_task(head, task));
+    let m = call::start(head::tasks::with_task(head, task));
     call::finish(m, 0, buffer)
 }

@@ -6,9 +6,9 @@ use lib.Dec.{ltb}
 use Rattle.register.specs.Word.{wordOf}
 use Rattle.journal.specs.Run.{Effect}
 use Rattle.journal.proofs.Framed.{Framed, framed-then, framed-cond, framed-store}
-use Rattle.measurement.specs.Measurement.{hxtCnt, hrcCnt, difference}
-use Rattle.measurement.proofs.Laws.{framed-either, framed-halted, framed-judged, framed-measurement}
-use Rattle.trim_search.specs.Search.{nextTrim, adjusted, search}
+use Rattle.calibration.specs.measure.{hxtCnt, hrcCnt, difference}
+use Rattle.calibration.proofs.measure.Laws.{framed-either, framed-halted, framed-judged, framed-measurement}
+use Rattle.calibration.specs.search.{nextTrim, adjusted, search}
 use Rattle.calibration.specs.Calibration.{calibrate, calibrateHrc48}
 
 framed-adjusted : (trim step : ℕ) (a : List ℕ) (more : ℕ → ℕ → Effect) → ((t d : ℕ) → Framed (more t d)) → Framed (adjusted trim step a more)

@@ -15,9 +15,9 @@ use Rattle.head.specs.declared.Head.{Head}
 use Rattle.register.specs.Word.{wordOf}
 use Rattle.clock_read.specs.Hpsys.{hclkOf}
 use Rattle.journal.specs.Run.{Run, Effect, begin, idle, _▸_, going, ended, halted, entry, store, cycles, delayed, delay, Poll, hit, dry, poll, waited, measured, measure}
-use Rattle.measurement.specs.Measurement.{measurement, hxtCnt, hrcCnt, difference, judged}
-use Rattle.trim_search.specs.Search.{nextTrim, adjusted, search}
-use Rattle.trim_search.proofs.Laws.{Ranged, ranged-first, ranged-next}
+use Rattle.calibration.specs.measure.{measurement, hxtCnt, hrcCnt, difference, judged}
+use Rattle.calibration.specs.search.{nextTrim, adjusted, search}
+use Rattle.calibration.proofs.search.Laws.{Ranged, ranged-first, ranged-next}
 use Rattle.calibration.specs.Calibration.{calibrate, calibrateHrc48}
 
 -- an entry that stores register 19 has a value in 1 to 1023

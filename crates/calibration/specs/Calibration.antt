@@ -4,7 +4,7 @@ use mathlib.Core.List.{List}
 use Prim.Native.Nat.{ℕ}
 use Rattle.register.specs.Word.{wordOf}
 use Rattle.journal.specs.Run.{Effect, _▸_, halted, store}
-use Rattle.trim_search.specs.Search.{search}
+use Rattle.calibration.specs.search.{search}
 
 -- `set_cal_length(0x3fff)`, `set_clkhp_sel(3)` and `set_clklp_sel(3)`, and a search of 11 measurements from trim 0x200 by steps of 0x100
 unfoldable pub calibrate : List ℕ → Effect

@@ -1,1 +1,3 @@
 pub mod Calibration
+pub mod measure
+pub mod search

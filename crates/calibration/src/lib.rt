@@ -1,4 +1,7 @@
 // `calibrate_hrc48` of rcc/clock_config.rs: trims HRC48 until it counts as HXT48 does.
+pub mod measure;
+pub mod search;
+
 ghost use Prim.Native.Nat.{_≤_};
 ghost use lib.ListN.{length};
 ghost use Rattle.journal.specs.Machine.{Ran, Ready, Kept};
@@ -14,7 +17,7 @@ fn calibrate(m: Machine, journal: &mut [u32], answers: &[u16]) -> Machine
 {
     let m = m.store(journal, 20, 0x3fff);
     let m = m.store(journal, 18, register::word(0, 3, 3));
-    trim_search::search(m, journal, answers)
+    search::search(m, journal, answers)
 }
 
 // The whole function: 31 without HXT48, before any store.

@@ -11,12 +11,12 @@ use Rattle.journal.specs.Run.{begin}
 use Rattle.journal.specs.Machine.{machineOf, Ready}
 use Rattle.record.specs.Refusals.{firstOf}
 use Rattle.head.specs.declared.Head.{Head}
-use Rattle.head_record.specs.declared.Decoded.{Decoded}
-use Rattle.head_record.specs.Record.{headRefusal, headOf}
+use Rattle.head.specs.declared.from_bytes.Decoded.{Decoded}
+use Rattle.head.specs.from_bytes.Record.{headRefusal, headOf}
 use Rattle.head.specs.Encodable.{Encodable}
-use Rattle.head_record.specs.Decodes.{Decodes}
-use Rattle.head_record.proofs.Answers.{read-head, read-encodable}
-use Rattle.head_record.proofs.Passed.{passed}
+use Rattle.head.specs.from_bytes.Decodes.{Decodes}
+use Rattle.head.proofs.from_bytes.Answers.{read-head, read-encodable}
+use Rattle.head.proofs.from_bytes.Passed.{passed}
 use Rattle.call.specs.declared.Admitted.{Admitted}
 use Rattle.call.specs.Call.{journalTests, answersTests, Admits}
 

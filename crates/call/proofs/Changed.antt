@@ -9,9 +9,9 @@ use borrow.Author.Tests.{eqb-true, ne-eqb}
 use Rattle.record.specs.Refusals.{firstOf}
 use Rattle.record.proofs.Refusals.{none-at, only-test, first-passes}
 use Rattle.head.specs.declared.Head.{Head}
-use Rattle.head_record.specs.Record.{bufferBytes, headRefusal, headOf, written}
+use Rattle.head.specs.from_bytes.Record.{bufferBytes, headRefusal, headOf, written}
 use Rattle.head.specs.Encodable.{Encodable}
-use Rattle.head_record.proofs.Encoding.{decode-encode}
+use Rattle.head.proofs.from_bytes.Encoding.{decode-encode}
 use Rattle.journal.specs.declared.Machine.{Machine}
 use Rattle.journal.specs.Run.{Run, begin}
 use Rattle.journal.specs.Machine.{machineOf, Ran}

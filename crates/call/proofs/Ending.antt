@@ -10,7 +10,7 @@ use borrow.Author.Tests.{eq-eqb, ne-eqb}
 use Rattle.head.specs.declared.Head.{Head}
 use Rattle.record.specs.Refusals.{firstOf}
 use Rattle.record.proofs.Refusals.{first-refuses, first-passes}
-use Rattle.head_record.specs.Record.{bufferBytes, headOf, written}
+use Rattle.head.specs.from_bytes.Record.{bufferBytes, headOf, written}
 use Rattle.head.specs.Encodable.{Encodable}
 use Rattle.journal.specs.declared.Machine.{Machine}
 use Rattle.journal.specs.Run.{Run, Effect, begin}

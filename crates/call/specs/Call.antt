@@ -6,7 +6,7 @@ use mathlib.Core.List.{List, [], _∷_, _++_}
 use lib.Dec.{eqb, ltb}
 use lib.ListN.{length, drop}
 use Rattle.record.specs.Refusals.{refuse, firstOf}
-use Rattle.head_record.specs.Record.{bufferBytes, headRefusal, headOf, written}
+use Rattle.head.specs.from_bytes.Record.{bufferBytes, headRefusal, headOf, written}
 use Rattle.head.specs.Encodable.{Encodable}
 use Rattle.head.specs.declared.Head.{Head}
 use Rattle.journal.specs.declared.Machine.{Machine}

@@ -1,8 +1,12 @@
 // Calls on a head's bytes: the tests that they share, and the way from the bytes to a running call and back.
+pub mod clocks;
+pub mod store;
+pub mod word;
+
 ghost use mathlib.Core.Path.{_≡_};
 ghost use lib.ListN.{length};
 ghost use Rattle.head.specs.Encodable.{Encodable};
-ghost use Rattle.head_record.specs.Record.{bufferBytes};
+ghost use Rattle.head.specs.from_bytes.Record.{bufferBytes};
 ghost use Rattle.call.specs.Call.{headTests, journalTests, answersTests, Admits, Finishes};
 ghost use Rattle.journal.specs.Run.{begin};
 ghost use Rattle.journal.specs.Machine.{machineOf};
@@ -30,7 +34,7 @@ pub struct Admitted {
 pub fn admit_head(buffer: &[u8]) -> Admitted
     ensures { λ r. ⌜ Admits (headTests (now (buffer .entry))) (now (buffer .entry)) r ⌝ }
 {
-    let decoded = head_record::decode(buffer);
+    let decoded = head::from_bytes::decode(buffer);
     let head = decoded.head;
     Admitted {
         refusal: decoded.refusal,
@@ -42,7 +46,7 @@ pub fn admit_head(buffer: &[u8]) -> Admitted
 pub fn admit(buffer: &[u8], journal: &[u32]) -> Admitted
     ensures { λ r. ⌜ Admits (journalTests (now (buffer .entry)) (now (journal .entry))) (now (buffer .entry)) r ⌝ }
 {
-    let decoded = head_record::decode(buffer);
+    let decoded = head::from_bytes::decode(buffer);
     let head = decoded.head;
     if journal.len() < JOURNAL_WORDS {
         return Admitted { refusal: 17, head };
@@ -57,7 +61,7 @@ pub fn admit(buffer: &[u8], journal: &[u32]) -> Admitted
 pub fn admit_with_answers(buffer: &[u8], journal: &[u32], answers: &[u16]) -> Admitted
     ensures { λ r. ⌜ Admits (answersTests (now (buffer .entry)) (now (journal .entry)) (now (answers .entry))) (now (buffer .entry)) r ⌝ }
 {
-    let decoded = head_record::decode(buffer);
+    let decoded = head::from_bytes::decode(buffer);
     let head = decoded.head;
     if journal.len() < JOURNAL_WORDS {
         return Admitted { refusal: 17, head };
@@ -104,7 +108,7 @@ pub fn finish(m: Machine, value: u32, buffer: &mut [u8]) -> Answer
     ensures { λ r. ⌜ Finishes m value r (now (buffer .entry)) (now (buffer .exit)) ⌝ }
 {
     let head = m.head;
-    head_encode::encode(head, buffer);
+    head::to_bytes::encode(head, buffer);
     let stop = m.stop;
     if stop != 0 {
         return Answer {

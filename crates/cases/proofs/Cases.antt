@@ -15,31 +15,31 @@ use Rattle.dvfs.specs.declared.hpsys.HpsysModeFound.the-variants.{Mode, OutOfRa
 use Rattle.dvfs.specs.Hpsys.{modeOf}
 use Rattle.journal.specs.Run.{Run, begin, going, halted, store, cycles, delay, poll, measure}
 use Rattle.head.specs.declared.Head.{Head}
-use Rattle.lpsys_modes.specs.Modes.{dividerFor}
-use Rattle.lpsys_modes.proofs.Divider.{source-48}
-use Rattle.head_record.specs.Record.{lengthFits, headRefusal, headOf, frontOf, stateOf, recordOf, written}
+use Rattle.lpsys_request.specs.modes.{dividerFor}
+use Rattle.lpsys_request.proofs.modes.Divider.{source-48}
+use Rattle.head.specs.from_bytes.Record.{lengthFits, headRefusal, headOf, frontOf, stateOf, recordOf, written}
 use Rattle.record.specs.Items.{items, joined}
 use Rattle.register.specs.Word.{wordIn, wordBytes}
 use Rattle.register.specs.Codes.{largest}
-use Rattle.register_bytes.specs.Registers.{registersIn}
+use Rattle.register.specs.bytes.{registersIn}
 use Rattle.task.specs.declared.Task.{Task}
 use Rattle.task.specs.Task.{noTask, taskOk, allOk, hasId, distinct}
-use Rattle.four_bytes.specs.Four.{fourIn, fourBytes}
-use Rattle.task_bytes.specs.Tasks.{taskIn, taskBytes, tasksIn, tasksFit, placesIn}
+use Rattle.record.specs.four.{fourIn, fourBytes}
+use Rattle.task.specs.bytes.{taskIn, taskBytes, tasksIn, tasksFit, placesIn}
 use Rattle.load.specs.Load.{shareOf, loadOf}
 use Rattle.call.specs.Call.{Result, performed}
 use Rattle.booking.specs.Booking.{book}
 use Rattle.clock_read.specs.Hpsys.{dllReading, sysOf, hclkOf}
-use Rattle.measurement.specs.Measurement.{measurement, difference, judged}
-use Rattle.trim_search.specs.Search.{nextTrim, adjusted, search}
+use Rattle.calibration.specs.measure.{measurement, difference, judged}
+use Rattle.calibration.specs.search.{nextTrim, adjusted, search}
 use Rattle.calibration.specs.Calibration.{calibrate, calibrateHrc48}
-use Rattle.plan_code.specs.Code.{settled, coded, dllOf}
+use Rattle.plan.specs.codes.{settled, coded, dllOf}
 use Rattle.plan.specs.Plan.{encoded, legal}
-use Rattle.plan_record.specs.Record.{recordRefusal, planOf, decoded, defaultRecord}
+use Rattle.plan.specs.bytes.{recordRefusal, planOf, decoded, defaultRecord}
 use Rattle.plan_clocks.specs.Clocks.{sysHz, hclkHz, pclk1Hz, pclk2Hz, usbHz, usbDivider, targetOf}
-use Rattle.plan_sources.specs.Sources.{coreOnAbsentDll1, coreOnDbl96, flashOnAbsentDll, usbOnAbsentDll2}
-use Rattle.plan_limits.specs.Limits.{usbNot60, dll1CoreTooSlow, hclkTooFast, pclk1TooFast, pclk2TooFast, dll2TooFast}
-use Rattle.plan_tests.specs.Tests.{planRefusal}
+use Rattle.limits.specs.sources.{coreOnAbsentDll1, coreOnDbl96, flashOnAbsentDll, usbOnAbsentDll2}
+use Rattle.limits.specs.Limits.{usbNot60, dll1CoreTooSlow, hclkTooFast, pclk1TooFast, pclk2TooFast, dll2TooFast}
+use Rattle.verdict.specs.tests.{planRefusal}
 use Rattle.verdict.specs.Verdict.{verdictOf, verdict, numberOf}
 
 -- the number that the plan check answers

@@ -12,11 +12,11 @@ use Rattle.record.specs.Bytes.{Bytes}
 use Rattle.record.specs.Refusals.{refuse, firstOf}
 use Rattle.record.proofs.Refusals.{none-at, not-refused, not-refused-unless, only-test, first-passes, first-append}
 use Rattle.plan.specs.declared.Plan.{Plan}
-use Rattle.plan_record.specs.declared.Decoded.{Decoded}
-use Rattle.plan_record.specs.declared.Decoded.the-variants.{Read, Unread}
-use Rattle.plan_record.specs.Record.{planOf, recordRefusal, decoded}
+use Rattle.plan.specs.declared.bytes.Decoded.{Decoded}
+use Rattle.plan.specs.declared.bytes.Decoded.the-variants.{Read, Unread}
+use Rattle.plan.specs.bytes.{planOf, recordRefusal, decoded}
 use Rattle.plan_clocks.specs.Clocks.{hclkHz}
-use Rattle.plan_tests.specs.Tests.{planRefusal}
+use Rattle.verdict.specs.tests.{planRefusal}
 use Rattle.verdict.specs.Verdict.{verdictOf, judged, verdict, numberOf}
 use Rattle.verdict.proofs.Passed.{Passed, number-is}
 use Rattle.verdict.proofs.Passed as verdicts
@@ -24,36 +24,36 @@ use Rattle.task.specs.declared.Task.{Task}
 use Rattle.task.specs.Task.{InBytes}
 use Rattle.head.specs.declared.Head.{Head}
 use Rattle.head.specs.Head.{booked}
-use Rattle.head_record.specs.Record.{headRefusal, headOf}
+use Rattle.head.specs.from_bytes.Record.{headRefusal, headOf}
 use Rattle.head.specs.Encodable.{Encodable}
-use Rattle.head_record.proofs.Passed.{passed}
-use Rattle.head_record.proofs.Decoding.{decode-encodable}
+use Rattle.head.proofs.from_bytes.Passed.{passed}
+use Rattle.head.proofs.from_bytes.Decoding.{decode-encodable}
 use Rattle.clock_read.specs.Hpsys.{hertz, sysOf, hclkOf}
-use Rattle.lpsys_read.specs.Lpsys.{lpsysSysOf, lpsysHclkOf}
+use Rattle.clock_read.specs.lpsys.{lpsysSysOf, lpsysHclkOf}
 use Rattle.journal.specs.Run.{Run, Effect, begin}
-use Rattle.rail.specs.Rail.{railLimit}
+use Rattle.fit.specs.rail.{railLimit}
 use Rattle.fit.specs.Fit.{fits}
 use Rattle.load.specs.Load.{loadOf}
 use Rattle.call.specs.Call.{Result, headTests, journalTests, answersTests, refused, finished, performed, headCall}
-use Rattle.tasks.specs.Tasks.{holding, without, withTask, withoutTask}
-use Rattle.tasks.proofs.Holding.{booked-holding}
-use Rattle.tasks.proofs.Kept.{less-encodable}
+use Rattle.head.specs.tasks.{holding, without, withTask, withoutTask}
+use Rattle.head.proofs.tasks.Holding.{booked-holding}
+use Rattle.head.proofs.tasks.Kept.{less-encodable}
 use Rattle.call.proofs.Changed.{done-buffer, refused-buffer, refusal-first, own-passed, left-head}
-use Rattle.booking_tests.specs.Tests.{bookTests}
+use Rattle.booking.specs.tests.{bookTests}
 use Rattle.booking.specs.Booking.{book}
 use Rattle.booking.proofs.Laws.{passed-load, passed-encodable}
-use Rattle.release.specs.Release.{releaseTests, release}
-use Rattle.release.proofs.Laws.{passed-has}
+use Rattle.booking.specs.release.{releaseTests, release}
+use Rattle.booking.proofs.release.Laws.{passed-has}
 use Rattle.lpsys_request.specs.Request.{request}
 use Rattle.lpsys_tests.proofs.Laws.{request-range}
-use Rattle.lpsys_frequency.specs.Calls.{requestTests, lpsysRequest}
+use Rattle.lpsys_request.specs.frequency.{requestTests, lpsysRequest}
 use Rattle.guard_change.specs.Change.{change}
-use Rattle.guard_safe.specs.Moment.{Ready, stopFor}
-use Rattle.guard_safe.proofs.View.{begun}
-use Rattle.guard_safe.proofs.Change.{Changed, change-moments}
-use Rattle.request_fit.proofs.Coded.{codes-now}
-use Rattle.request_fit.proofs.Requests.{request-moments, request-codes}
-use Rattle.guard_tests.specs.Tests.{unready}
+use Rattle.claim.specs.changes.{Ready, stopFor}
+use Rattle.claim.proofs.changes.View.{begun}
+use Rattle.claim.proofs.changes.Change.{Changed, change-moments}
+use Rattle.claim.proofs.requests.Coded.{codes-now}
+use Rattle.claim.proofs.requests.Laws.{request-moments, request-codes}
+use Rattle.guard.specs.tests.{unready}
 use Rattle.guard.specs.Guard.{changeTests, changeRefusal, changeCall}
 use Rattle.claim.specs.Claim.{Call, changing, booking, releasing, requesting, perform, Typed, after, Carries, Asked, FitHead}
 use Rattle.claim.proofs.Written.{written-bytes}

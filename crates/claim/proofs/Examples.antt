@@ -9,49 +9,49 @@ use Rattle.record.specs.Bytes.{isWithin}
 use Rattle.record.specs.Refusals.{firstOf}
 use Rattle.record.specs.Items.{items, joined}
 use Rattle.clock.specs.Clock.{dllHz, divided, shifted}
-use Rattle.plan_code.specs.Code.{settled, coded, dllOf}
+use Rattle.plan.specs.codes.{settled, coded, dllOf}
 use Rattle.plan.specs.Plan.{encoded, legal}
-use Rattle.plan_record.specs.Record.{recordRefusal, planOf, decoded, defaultRecord}
+use Rattle.plan.specs.bytes.{recordRefusal, planOf, decoded, defaultRecord}
 use Rattle.plan_clocks.specs.Clocks.{sysHz, hclkHz, pclk1Hz, pclk2Hz, usbHz, usbDivider, targetOf}
-use Rattle.plan_sources.specs.Sources.{coreOnAbsentDll1, coreOnDbl96, flashOnAbsentDll, usbOnAbsentDll2}
-use Rattle.plan_limits.specs.Limits.{usbNot60, dll1CoreTooSlow, hclkTooFast, pclk1TooFast, pclk2TooFast, dll2TooFast}
-use Rattle.plan_tests.specs.Tests.{planRefusal}
+use Rattle.limits.specs.sources.{coreOnAbsentDll1, coreOnDbl96, flashOnAbsentDll, usbOnAbsentDll2}
+use Rattle.limits.specs.Limits.{usbNot60, dll1CoreTooSlow, hclkTooFast, pclk1TooFast, pclk2TooFast, dll2TooFast}
+use Rattle.verdict.specs.tests.{planRefusal}
 use Rattle.verdict.specs.Verdict.{verdictOf, verdict}
 use Rattle.register.specs.Word.{wordIn, wordBytes}
 use Rattle.register.specs.Codes.{largest}
-use Rattle.register_bytes.specs.Registers.{registersIn}
+use Rattle.register.specs.bytes.{registersIn}
 use Rattle.task.specs.declared.Task.{Task}
 use Rattle.task.specs.Task.{noTask, taskOk, allOk, hasId, distinct}
-use Rattle.four_bytes.specs.Four.{fourIn, fourBytes}
-use Rattle.task_bytes.specs.Tasks.{taskIn, taskBytes, tasksIn, tasksFit, placesIn}
+use Rattle.record.specs.four.{fourIn, fourBytes}
+use Rattle.task.specs.bytes.{taskIn, taskBytes, tasksIn, tasksFit, placesIn}
 use Rattle.load.specs.Load.{shareOf, loadOf}
 use Rattle.head.specs.declared.Head.{Head}
-use Rattle.head_record.specs.Record.{lengthFits, headRefusal, headOf, frontOf, stateOf, recordOf, written}
+use Rattle.head.specs.from_bytes.Record.{lengthFits, headRefusal, headOf, frontOf, stateOf, recordOf, written}
 use Rattle.clock_read.specs.Hpsys.{dllReading, sysOf, hclkOf}
-use Rattle.lpsys_read.specs.Lpsys.{lpsysSysOf, lpsysHclkOf}
+use Rattle.clock_read.specs.lpsys.{lpsysSysOf, lpsysHclkOf}
 use Rattle.journal.specs.Run.{going, store, delay, poll, wait}
 use Rattle.dvfs.specs.Hpsys.{modeOf}
-use Rattle.dvfs_lpsys_modes.specs.Lpsys.{lpsysModeOf}
-use Rattle.lpsys_switch.specs.LpsysSwitch.{lpsysD2sFirst, lpsysS2dFirst, lpsysS2dSecond}
-use Rattle.hpsys_volts.specs.HpsysVolts.{vrefOf, sxModeVolt, timing}
-use Rattle.hpsys_switch.specs.HpsysSwitch.{d2sFirst, s2dFirst, s2dSecond}
-use Rattle.rail.specs.Rail.{met, higher, railLimit}
+use Rattle.dvfs.specs.lpsys.{lpsysModeOf}
+use Rattle.dvfs_lpsys.specs.switch.{lpsysD2sFirst, lpsysS2dFirst, lpsysS2dSecond}
+use Rattle.dvfs_hpsys.specs.volts.{vrefOf, sxModeVolt, timing}
+use Rattle.dvfs_hpsys.specs.switch.{d2sFirst, s2dFirst, s2dSecond}
+use Rattle.fit.specs.rail.{met, higher, railLimit}
 use Rattle.fit.specs.Fit.{lit, fits}
 use Rattle.dll.specs.Dll.{hpbgOn, vddpswOn, dllOff, dllOn, relocked, setDll, configureDll}
-use Rattle.core_dividers.specs.Dividers.{dividers}
-use Rattle.guard_peak.specs.Peak.{modeAt, highest, peakOf}
-use Rattle.guard_supply.specs.Supply.{raise}
+use Rattle.core_clock.specs.dividers.{dividers}
+use Rattle.guard_steps.specs.peak.{modeAt, highest, peakOf}
+use Rattle.guard_steps.specs.supply.{raise}
 use Rattle.guard_steps.specs.Steps.{leaveDll1, toHxt48, toPlanned, backTo}
 use Rattle.guard_change.specs.Change.{change}
 use Rattle.guard.specs.Guard.{changeCall}
-use Rattle.lpsys_modes.specs.Modes.{dividerFor, presentMode, requestMode}
-use Rattle.lpsys_hdiv.specs.Hdiv.{setHdiv}
+use Rattle.lpsys_request.specs.modes.{dividerFor, presentMode, requestMode}
+use Rattle.lpsys_request.specs.hdiv.{setHdiv}
 use Rattle.lpsys_request.specs.Request.{request}
-use Rattle.lpsys_frequency.specs.Calls.{lpsysRequest}
+use Rattle.lpsys_request.specs.frequency.{lpsysRequest}
 use Rattle.call.specs.Call.{performed}
-use Rattle.tasks.specs.Tasks.{holding, without}
+use Rattle.head.specs.tasks.{holding, without}
 use Rattle.booking.specs.Booking.{book}
-use Rattle.release.specs.Release.{release}
+use Rattle.booking.specs.release.{release}
 use Rattle.claim.specs.Claim.{Call, changing, booking, releasing, requesting, perform}
 
 -- a head at 48 MHz on D: the core on HXT48, D1's buck and ldo, LPSYS on HXT48 at 24 MHz

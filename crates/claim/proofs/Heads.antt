@@ -9,12 +9,12 @@ use Rattle.time.specs.declared.Reading.{Reading}
 use Rattle.time.specs.declared.Reading.the-variants.{At, Unreadable}
 use Rattle.head.specs.declared.Head.{Head}
 use Rattle.clock_read.specs.Hpsys.{reg, hertz, hclkOf}
-use Rattle.head_clocks.proofs.Positive.{Least, reads, none, least-hclk}
+use Rattle.readings.proofs.Positive.{Least, reads, none, least-hclk}
 use Rattle.dvfs.specs.declared.hpsys.HpsysDvfsMode.the-variants.{D0, D1, S0, S1}
-use Rattle.rail.specs.Rail.{met, higher, railLimit}
+use Rattle.fit.specs.rail.{met, higher, railLimit}
 use Rattle.fit.specs.Fit.{within, fits}
-use Rattle.guard_safe.proofs.View.{begun}
-use Rattle.request_fit.proofs.Requests.{clock-fit, first-fit, second-fit, lpsys-safe}
+use Rattle.claim.proofs.changes.View.{begun}
+use Rattle.claim.proofs.requests.Laws.{clock-fit, first-fit, second-fit, lpsys-safe}
 use Rattle.claim.specs.Claim.{Safe}
 
 -- a rail limit above 0 is at least 24 MHz

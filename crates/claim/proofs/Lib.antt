@@ -4,3 +4,5 @@ pub mod Performed
 pub mod Calls
 pub mod Demand
 pub mod Examples
+pub mod changes
+pub mod requests

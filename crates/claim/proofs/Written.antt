@@ -12,15 +12,15 @@ use Rattle.register.specs.Word.{wordBytes}
 use Rattle.register.proofs.Fits.{fits-word}
 use Rattle.task.specs.declared.Task.{Task}
 use Rattle.task.specs.Task.{noTask, InBytes}
-use Rattle.four_bytes.specs.Four.{fourBytes}
-use Rattle.task_bytes.specs.Tasks.{taskBytes}
-use Rattle.task_bytes.proofs.Bytes.{bytes-drop}
+use Rattle.record.specs.four.{fourBytes}
+use Rattle.task.specs.bytes.{taskBytes}
+use Rattle.task.proofs.bytes.Laws.{bytes-drop}
 use Rattle.head.specs.declared.Head.{Head}
 use Rattle.register.specs.Word.{bit}
 use Rattle.head.specs.Head.{booked}
-use Rattle.head_record.specs.Record.{frontOf, stateOf, recordOf, written}
+use Rattle.head.specs.from_bytes.Record.{frontOf, stateOf, recordOf, written}
 use Rattle.head.specs.Encodable.{Encodable}
-use Rattle.tasks.proofs.Holding.{booked-length}
+use Rattle.head.proofs.tasks.Holding.{booked-length}
 
 bytes-none : Bytes []
 bytes-none i = omega arith

@@ -7,27 +7,27 @@ use mathlib.Core.List.{List, [], _∷_, _++_}
 use lib.Dec.{eqb}
 use lib.ListN.{take}
 use Rattle.record.specs.Bytes.{Bytes}
-use Rattle.plan_record.specs.Record.{planOf}
+use Rattle.plan.specs.bytes.{planOf}
 use Rattle.plan_clocks.specs.Clocks.{hclkHz}
 use Rattle.register.specs.Word.{byteB, byteC}
 use Rattle.task.specs.declared.Task.{Task}
 use Rattle.task.specs.Task.{InBytes}
 use Rattle.head.specs.declared.Head.{Head}
 use Rattle.head.specs.Head.{booked}
-use Rattle.head_record.specs.Record.{headRefusal, headOf}
+use Rattle.head.specs.from_bytes.Record.{headRefusal, headOf}
 use Rattle.clock_read.specs.Hpsys.{reg, hertz, hclkOf}
 use Rattle.journal.specs.Run.{replayed}
 use Rattle.load.specs.Load.{loadOf}
-use Rattle.rail.specs.Rail.{railLimit}
+use Rattle.fit.specs.rail.{railLimit}
 use Rattle.fit.specs.Fit.{lit, fits}
 use Rattle.lpsys_request.specs.Safe.{lpsysHz}
 use Rattle.call.specs.Call.{Result}
-use Rattle.tasks.specs.Tasks.{without}
-use Rattle.guard_safe.specs.Moment.{headWith, stopFor}
+use Rattle.head.specs.tasks.{without}
+use Rattle.claim.specs.changes.{headWith, stopFor}
 use Rattle.guard.specs.Guard.{changeRefusal, changeCall}
-use Rattle.lpsys_frequency.specs.Calls.{lpsysRequest}
+use Rattle.lpsys_request.specs.frequency.{lpsysRequest}
 use Rattle.booking.specs.Booking.{book}
-use Rattle.release.specs.Release.{release}
+use Rattle.booking.specs.release.{release}
 
 -- "guarded changes, bookings, releases and LPSYS requests", with any arguments: a plan's bytes, a journal and answers; a task; an id;
 -- whole MHz and a journal. "answers and journal are each call's own"

@@ -1,1 +1,3 @@
 pub mod Claim
+pub mod changes
+pub mod joined

@@ -1,4 +1,6 @@
 // rcc/clock.rs: clock constants, DLL and divider arithmetic.
+pub mod clocks;
+
 ghost use mathlib.Core.Path.{_≡_};
 ghost use Prim.Native.Nat.{_≤_};
 ghost use Rattle.clock.specs.Clock.{dllHz, divided, shifted};

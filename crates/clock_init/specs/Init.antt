@@ -5,10 +5,10 @@ use mathlib.Core.List.{List}
 use lib.Dec.{eqb}
 use Rattle.plan.specs.declared.Plan.{Plan}
 use Rattle.journal.specs.Run.{Run, Effect, idle, _▸_}
-use Rattle.init_begin.specs.Begin.{initBegin}
-use Rattle.init_warning.specs.Warning.{warning}
+use Rattle.init_first.specs.begin.{initBegin}
+use Rattle.init_first.specs.warning.{warning}
 use Rattle.init_first.specs.First.{bootStores, calibrating, initFirst}
-use Rattle.init_core.specs.Core.{initClock}
+use Rattle.clock_init.specs.core.{initClock}
 
 -- all of it but for what every boot does
 unfoldable pub boot : Plan → List ℕ → Effect

@@ -1,2 +1,3 @@
 pub mod Init
 pub mod Told
+pub mod core

@@ -1,4 +1,6 @@
 // rcc/clock_config.rs, `init` on a running call.
+pub mod core;
+
 ghost use mathlib.Core.Path.{_≡_};
 ghost use mathlib.Core.Bool.{true};
 ghost use Prim.Native.Nat.{_≤_};
@@ -10,7 +12,7 @@ ghost use Rattle.journal.specs.Machine.{Ran, Ready, Kept};
 ghost use Rattle.init_first.specs.First.{bootStores, calibrating, Warned};
 ghost use Rattle.clock_init.specs.Init.{boot, init};
 ghost use Rattle.clock_init.specs.Told.{Told};
-use init_warning::Calibrated;
+use init_first::warning::Calibrated;
 use journal::Machine;
 use plan::Plan;
 use plan_clocks::Target;
@@ -25,7 +27,7 @@ fn boot(m: Machine, journal: &mut [u32], answers: &[u16], p: Plan, target: Targe
 {
     let first = init_first::init_first(m, journal, answers, p);
     let m = first.machine;
-    let machine = init_core::init_clock(m, journal, answers, p, target);
+    let machine = core::init_clock(m, journal, answers, p, target);
     Calibrated {
         machine,
         warning: first.warning,
@@ -44,7 +46,7 @@ pub fn init(m: Machine, journal: &mut [u32], answers: &[u16], p: Plan, target: T
 {
     let head = m.head;
     let boot_mode = head.boot_mode;
-    let m = init_begin::init_begin(m, journal, answers);
+    let m = init_first::begin::init_begin(m, journal, answers);
     if boot_mode == PM_STANDBY_BOOT {
         return Calibrated {
             machine: m,

@@ -1,10 +1,10 @@
--- What waking the LPSYS core, cancelling that and HXT48 leave, on the bytes lent to each; the other LPSYS calls are in `lpsys_frequency`,
--- `lpsys_dividers` and `lpsys_selects`. Assumes nothing.
+-- What waking the LPSYS core, cancelling that and HXT48 leave, on the bytes lent to each; the other LPSYS calls are in `lpsys_request::frequency`,
+-- `clock_lpsys::dividers` and `clock_lpsys::selects`. Assumes nothing.
 use Prim.Native.Nat.{ℕ}
 use mathlib.Core.List.{List, []}
 use Rattle.call.specs.Call.{Result, journalCall, answersCall}
 use Rattle.lpsys_wake.specs.Wake.{wake, cancel}
-use Rattle.lpsys_hxt48.specs.Hxt48.{hxt48Ready}
+use Rattle.lpsys_wake.specs.hxt48.{hxt48Ready}
 
 -- `wake_lcpu` and `cancel_lcpu_active_request`
 unfoldable pub wakeLcpu : List ℕ → List ℕ → List ℕ → Result

@@ -1,14 +1,17 @@
-// rcc/clock_lpsys.rs: the calls that set the clocks of the low-power system. Its readings are in `lpsys_read`.
+// rcc/clock_lpsys.rs: the calls that set the clocks of the low-power system. Its readings are in `clock_read::lpsys`.
+pub mod dividers;
+pub mod selects;
+
 ghost use Rattle.call.specs.Call.{Answers};
 ghost use Rattle.clock_lpsys.specs.Calls.{wakeLcpu, cancelLcpu, ensureHxt48};
 use call::Answer;
-pub use lpsys_dividers::config_lpsys_mac_clock;
-pub use lpsys_dividers::set_lpsys_div;
-pub use lpsys_dividers::set_lpsys_hdiv;
-pub use lpsys_frequency::config_lpsys_hclk_mhz;
-pub use lpsys_frequency::ensure_safe_lcpu_frequency;
-pub use lpsys_selects::select_lpsys_peri;
-pub use lpsys_selects::select_lpsys_sysclk;
+pub use dividers::config_lpsys_mac_clock;
+pub use dividers::set_lpsys_div;
+pub use dividers::set_lpsys_hdiv;
+pub use lpsys_request::frequency::config_lpsys_hclk_mhz;
+pub use lpsys_request::frequency::ensure_safe_lcpu_frequency;
+pub use selects::select_lpsys_peri;
+pub use selects::select_lpsys_sysclk;
 
 pub fn wake_lcpu(buffer: &mut [u8], journal: &mut [u32], answers: &[u16]) -> Answer
     ensures { λ r. ⌜ Answers (wakeLcpu (now (buffer .entry)) (now (journal .entry)) (now (answers .entry))) r (now (buffer .exit)) (now (journal .exit)) ⌝ }
@@ -42,6 +45,6 @@ pub fn ensure_hxt48_ready(buffer: &mut [u8], journal: &mut [u32], answers: &[u16
         return Answer::refused(admitted.refusal);
     }
     let head = admitted.head;
-    let m = lpsys_hxt48::hxt48_ready(call::start(head), journal, answers);
+    let m = lpsys_wake::hxt48::hxt48_ready(call::start(head), journal, answers);
     call::finish(m, 0, buffer)
 }

@@ -1,1 +1,4 @@
 pub mod Hpsys
+pub mod devices
+pub mod lpsys
+pub mod buses

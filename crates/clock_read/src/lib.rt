@@ -1,4 +1,8 @@
 // rcc/clock_read.rs: frequencies of HPSYS read from a head, up to HCLK.
+pub mod buses;
+pub mod devices;
+pub mod lpsys;
+
 ghost use mathlib.Core.Path.{_≡_};
 ghost use Prim.Native.Nat.{_≤_};
 ghost use Rattle.register.specs.Word.{byteC};

@@ -9,7 +9,7 @@ use Rattle.plan.specs.declared.Plan.{Plan}
 use Rattle.register.specs.Word.{bit}
 use Rattle.clock_read.specs.Hpsys.{reg}
 use Rattle.journal.specs.Run.{Effect, idle, _▸_, store}
-use Rattle.core_dividers.specs.Dividers.{dividers}
+use Rattle.core_clock.specs.dividers.{dividers}
 use Rattle.dll.specs.Dll.{configureDll}
 
 -- `switch_away_from_dll1`: a core on DLL1 (3) goes to HXT48 (1) where that is ready, else to HRC48 (0)

@@ -1,1 +1,3 @@
 pub mod CoreClock
+pub mod dividers
+pub mod switch

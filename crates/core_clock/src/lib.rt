@@ -1,4 +1,7 @@
 // rcc/clock_config.rs: the steps that set the core clock as a plan has it.
+pub mod dividers;
+pub mod switch;
+
 ghost use mathlib.Core.Path.{_≡_};
 ghost use mathlib.Core.Bool.{true};
 ghost use Prim.Native.Nat.{_≤_};
@@ -52,6 +55,6 @@ pub fn apply_dividers_and_sysclk(m: Machine, journal: &mut [u32], p: Plan) -> Ma
     ensures { λ r. ⌜ r .taken ≡ m .taken ⌝ }
 {
     let sys = p.sys;
-    let m = core_dividers::apply_dividers(m, journal, p);
+    let m = dividers::apply_dividers(m, journal, p);
     m.store(journal, 1, sys as u32)
 }

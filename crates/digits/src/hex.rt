@@ -1,7 +1,7 @@
 // A journal entry's value in hexadecimal.
 ghost use mathlib.Core.Path.{_≡_};
-ghost use Rattle.hexadecimal.specs.Hex.{hexDigits};
-use hexadecimal::glyph;
+ghost use Rattle.digits.specs.hexadecimal.{hexDigits};
+use crate::hexadecimal::glyph;
 
 // The last six digits.
 pub fn six_digits(value: u32) -> [u8; 6]

@@ -1,3 +1,4 @@
 // Numbers as text: a request in decimal, and a journal entry's value in hexadecimal.
 pub mod hex;
+pub mod hexadecimal;
 pub mod request;

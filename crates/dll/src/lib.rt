@@ -1,4 +1,6 @@
 // rcc/clock_config.rs, `configure_dll1`: a DLL set anew, DLL1 or DLL2 by the number of its register.
+pub mod words;
+
 ghost use mathlib.Core.Path.{_≡_};
 ghost use Prim.Native.Nat.{_≤_};
 ghost use lib.ListN.{length};
@@ -45,8 +47,8 @@ fn relock(m: Machine, journal: &mut [u32], number: usize, d: Dll) -> Machine
     ensures { λ r. ⌜ r .taken ≡ m .taken ⌝ }
 {
     let head = m.head;
-    let off = dll_words::off_word(head, number);
-    let on = dll_words::on_word(d, number);
+    let off = words::off_word(head, number);
+    let on = words::on_word(d, number);
     let m = m.store(journal, number, off);
     m.store(journal, number, on)
 }

@@ -1,1 +1,3 @@
 pub mod Hpsys
+pub mod lpsys
+pub mod limits

@@ -1,5 +1,7 @@
 // pmu/dvfs.rs: the supply modes of HPSYS, their limits and their table.
 mod hpsys;
+pub mod limits;
+pub mod lpsys;
 
 pub use hpsys::HPSYS_DVFS_MODE_D0_LIMIT;
 pub use hpsys::HPSYS_DVFS_MODE_D1_LIMIT;

@@ -5,7 +5,7 @@ use Rattle.journal.specs.Run.{Effect, idle}
 use Rattle.dvfs.specs.declared.hpsys.HpsysDvfsMode.{HpsysDvfsMode}
 use Rattle.dvfs.specs.declared.hpsys.HpsysDvfsMode.the-variants.{D0, D1, S0, S1}
 use Rattle.dvfs.specs.Hpsys.{numberOf}
-use Rattle.hpsys_switch.specs.HpsysSwitch.{s2sFirst, d2sFirst, s2dFirst, s2dSecond}
+use Rattle.dvfs_hpsys.specs.switch.{s2sFirst, d2sFirst, s2dFirst, s2dSecond}
 
 -- a mode of the S supply
 abbrev pub isS : HpsysDvfsMode → Bool

@@ -1,1 +1,3 @@
 pub mod HpsysModes
+pub mod volts
+pub mod switch

@@ -1,4 +1,7 @@
 // pmu/dvfs.rs: `config_hcpu_dvfs`, the half of the supply transition of HPSYS before the clock is set and the one after it.
+pub mod switch;
+pub mod volts;
+
 ghost use mathlib.Core.Path.{_≡_};
 ghost use Rattle.journal.specs.Machine.{Ran, Ready, Kept};
 ghost use Rattle.dvfs_hpsys.specs.HpsysModes.{isS, sameMode, hpsysFirst, hpsysSecond};
@@ -39,11 +42,11 @@ pub fn config_hcpu_dvfs_first(
     }
     if is_s(target) {
         if is_s(current) {
-            return hpsys_switch::switch_hcpu_dvfs_s2s_first(m, journal, target);
+            return switch::switch_hcpu_dvfs_s2s_first(m, journal, target);
         }
-        return hpsys_switch::switch_hcpu_dvfs_d2s_first(m, journal, target);
+        return switch::switch_hcpu_dvfs_d2s_first(m, journal, target);
     }
-    hpsys_switch::switch_hcpu_dvfs_s2d_first(m, journal, target)
+    switch::switch_hcpu_dvfs_s2d_first(m, journal, target)
 }
 
 // `config_hcpu_dvfs` after the clock is set.
@@ -64,5 +67,5 @@ pub fn config_hcpu_dvfs_second(
     if is_s(target) {
         return m;
     }
-    hpsys_switch::switch_hcpu_dvfs_s2d_second(m, journal, target)
+    switch::switch_hcpu_dvfs_s2d_second(m, journal, target)
 }

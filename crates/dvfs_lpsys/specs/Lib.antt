@@ -1,1 +1,2 @@
 pub mod LpsysModes
+pub mod switch

@@ -1,8 +1,8 @@
 -- The transitions of LPSYS by their modes: pmu/dvfs.rs, `config_lpsys_dvfs`. Assumes nothing.
 use Rattle.journal.specs.Run.{Effect, idle}
-use Rattle.dvfs_lpsys_modes.specs.declared.LpsysDvfsMode.{LpsysDvfsMode}
-use Rattle.dvfs_lpsys_modes.specs.declared.LpsysDvfsMode.the-variants.{D, S}
-use Rattle.lpsys_switch.specs.LpsysSwitch.{lpsysD2sFirst, lpsysS2dFirst, lpsysS2dSecond}
+use Rattle.dvfs.specs.declared.lpsys.LpsysDvfsMode.{LpsysDvfsMode}
+use Rattle.dvfs.specs.declared.lpsys.LpsysDvfsMode.the-variants.{D, S}
+use Rattle.dvfs_lpsys.specs.switch.{lpsysD2sFirst, lpsysS2dFirst, lpsysS2dSecond}
 
 -- `config_lpsys_dvfs` before and after the clock, by the mode that it comes from and the one that it goes to
 abbrev pub lpsysFirst : LpsysDvfsMode → LpsysDvfsMode → Effect

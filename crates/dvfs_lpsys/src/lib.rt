@@ -1,8 +1,10 @@
 // pmu/dvfs.rs: the halves of a supply transition of LPSYS, before and after the clock is set.
+pub mod switch;
+
 ghost use mathlib.Core.Path.{_≡_};
 ghost use Rattle.journal.specs.Machine.{Ran, Ready, Kept};
 ghost use Rattle.dvfs_lpsys.specs.LpsysModes.{lpsysFirst, lpsysSecond};
-use dvfs_lpsys_modes::LpsysDvfsMode;
+use dvfs::lpsys::LpsysDvfsMode;
 use journal::Machine;
 
 // `config_lpsys_dvfs` before the clock is set.
@@ -20,10 +22,10 @@ pub fn config_lpsys_dvfs_first(
     match current {
         LpsysDvfsMode::D => match target {
             LpsysDvfsMode::D => m,
-            LpsysDvfsMode::S => lpsys_switch::switch_lpsys_dvfs_d2s_first(m, journal),
+            LpsysDvfsMode::S => switch::switch_lpsys_dvfs_d2s_first(m, journal),
         },
         LpsysDvfsMode::S => match target {
-            LpsysDvfsMode::D => lpsys_switch::switch_lpsys_dvfs_s2d_first(m, journal),
+            LpsysDvfsMode::D => switch::switch_lpsys_dvfs_s2d_first(m, journal),
             LpsysDvfsMode::S => m,
         },
     }
@@ -44,7 +46,7 @@ pub fn config_lpsys_dvfs_second(
     match current {
         LpsysDvfsMode::D => m,
         LpsysDvfsMode::S => match target {
-            LpsysDvfsMode::D => lpsys_switch::switch_lpsys_dvfs_s2d_second(m, journal),
+            LpsysDvfsMode::D => switch::switch_lpsys_dvfs_s2d_second(m, journal),
             LpsysDvfsMode::S => m,
         },
     }

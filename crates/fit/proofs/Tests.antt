@@ -8,8 +8,8 @@ use Rattle.time.specs.declared.Reading.the-variants.{At, Unreadable}
 use Rattle.register.specs.Word.{byteB, byteC}
 use Rattle.head.specs.declared.Head.{Head}
 use Rattle.clock_read.specs.Hpsys.{reg, hclkOf}
-use Rattle.lpsys_read.specs.Lpsys.{lpsysHclkOf}
-use Rattle.rail.specs.Rail.{railLimit}
+use Rattle.clock_read.specs.lpsys.{lpsysHclkOf}
+use Rattle.fit.specs.rail.{railLimit}
 use Rattle.fit.specs.Fit.{within, lit, lpsysFit, fits}
 
 -- a test that fails decides, and one that passes leaves it to the rest

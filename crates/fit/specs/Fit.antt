@@ -7,8 +7,8 @@ use Rattle.time.specs.declared.Reading.the-variants.{At, Unreadable}
 use Rattle.register.specs.Word.{byteA, byteB, byteC}
 use Rattle.head.specs.declared.Head.{Head}
 use Rattle.clock_read.specs.Hpsys.{reg, hclkOf}
-use Rattle.lpsys_read.specs.Lpsys.{lpsysHclkOf}
-use Rattle.rail.specs.Rail.{railLimit}
+use Rattle.clock_read.specs.lpsys.{lpsysHclkOf}
+use Rattle.fit.specs.rail.{railLimit}
 
 -- a clock reads, and is at most a limit
 abbrev pub within : Reading → ℕ → Bool

@@ -5,19 +5,19 @@ use mathlib.Core.List.{List, [], _∷_, _++_}
 use Rattle.record.specs.Refusals.{firstOf}
 use Rattle.record.proofs.Refusals.{only-test, first-refuses, first-passes}
 use Rattle.plan.specs.declared.Plan.{Plan}
-use Rattle.plan_record.specs.Record.{planOf}
+use Rattle.plan.specs.bytes.{planOf}
 use Rattle.verdict.specs.Verdict.{verdict, numberOf}
-use Rattle.planned.specs.declared.Planned.{Planned}
-use Rattle.planned.specs.Planned.{Plans}
+use Rattle.verdict.specs.declared.planned.Planned.{Planned}
+use Rattle.verdict.specs.planned.{Plans}
 use Rattle.head.specs.declared.Head.{Head}
-use Rattle.head_record.specs.Record.{headOf}
+use Rattle.head.specs.from_bytes.Record.{headOf}
 use Rattle.journal.specs.declared.Machine.{Machine}
 use Rattle.journal.specs.Machine.{Ran}
 use Rattle.guard_change.specs.Change.{change}
 use Rattle.call.specs.declared.Admitted.{Admitted}
 use Rattle.call.specs.Call.{answersTests, Admits}
 use Rattle.call.proofs.Ending.{call-head}
-use Rattle.guard_tests.specs.Tests.{guardTests}
+use Rattle.guard.specs.tests.{guardTests}
 use Rattle.guard.specs.Guard.{changeTests}
 
 module _ (pb b j a : List ℕ) {o : Admitted} (x : Admits (answersTests b j a) b o) {q : Planned} (y : Plans pb q) (z : o .refusal ≡ 0) where

@@ -2,12 +2,12 @@
 use Prim.Native.Nat.{ℕ}
 use mathlib.Core.List.{List, _∷_, _++_}
 use Rattle.record.specs.Refusals.{firstOf}
-use Rattle.plan_record.specs.Record.{planOf}
+use Rattle.plan.specs.bytes.{planOf}
 use Rattle.verdict.specs.Verdict.{verdict, numberOf}
-use Rattle.head_record.specs.Record.{headOf}
+use Rattle.head.specs.from_bytes.Record.{headOf}
 use Rattle.call.specs.Call.{Result, answersTests, performed}
 use Rattle.guard_change.specs.Change.{change}
-use Rattle.guard_tests.specs.Tests.{guardTests}
+use Rattle.guard.specs.tests.{guardTests}
 
 -- the plan's 1 to 14, then its own
 abbrev pub changeTests : List ℕ → List ℕ → List ℕ

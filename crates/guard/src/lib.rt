@@ -1,4 +1,6 @@
 // The guarded change on lent bytes.
+pub mod tests;
+
 ghost use Rattle.call.specs.Call.{Answers};
 ghost use Rattle.guard.specs.Guard.{changeCall};
 use call::Answer;
@@ -11,13 +13,13 @@ pub fn change(buffer: &mut [u8], plan: &[u8], journal: &mut [u32], answers: &[u1
     if admitted.refusal != 0 {
         return Answer::refused(admitted.refusal);
     }
-    let planned = planned::admit(plan);
+    let planned = verdict::planned::admit(plan);
     if planned.refusal != 0 {
         return Answer::refused(planned.refusal);
     }
     let head = admitted.head;
     let hclk = planned.target.hclk;
-    let refused = guard_tests::refusal(planned.plan, hclk, head);
+    let refused = tests::refusal(planned.plan, hclk, head);
     if refused != 0 {
         return Answer::refused(refused);
     }

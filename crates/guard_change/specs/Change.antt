@@ -7,10 +7,10 @@ use Rattle.plan_clocks.specs.Clocks.{hclkHz}
 use Rattle.clock_read.specs.Hpsys.{reg, hclkOf}
 use Rattle.journal.specs.Run.{Effect, _▸_}
 use Rattle.dvfs.specs.declared.hpsys.HpsysDvfsMode.{HpsysDvfsMode}
-use Rattle.core_dividers.specs.Dividers.{dividers}
+use Rattle.core_clock.specs.dividers.{dividers}
 use Rattle.core_clock.specs.CoreClock.{plannedDll1}
-use Rattle.guard_peak.specs.Peak.{modeAt, peakOf}
-use Rattle.guard_supply.specs.Supply.{raise, settle}
+use Rattle.guard_steps.specs.peak.{modeAt, peakOf}
+use Rattle.guard_steps.specs.supply.{raise, settle}
 use Rattle.guard_steps.specs.Steps.{leaveDll1, toHxt48, toPlanned, backTo}
 
 -- all steps, from the peak and the flash selects as they were; "(4) if the plan has DLL1, `configure_dll1`'s stores, delay and wait;

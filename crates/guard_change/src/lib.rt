@@ -1,4 +1,7 @@
 // The guarded change on a running call: the peak of its supply, then its two halves.
+pub mod steps1to4;
+pub mod steps5to8;
+
 ghost use mathlib.Core.Path.{_≡_};
 ghost use mathlib.Core.Bool.{true};
 ghost use Prim.Native.Nat.{_≤_};
@@ -23,7 +26,7 @@ pub fn change(m: Machine, journal: &mut [u32], answers: &[u16], p: Plan, target:
     let head = m.head;
     let selects = head.regs[5];
     let present = clock_read::get_hclk_freq(head).unwrap_or(Hertz(0));
-    let peak = guard_peak::peak(present, target);
-    let m = guard_leave::leave(m, journal, answers, p, peak);
-    guard_arrive::arrive(m, journal, p, selects, target)
+    let peak = guard_steps::peak::peak(present, target);
+    let m = steps1to4::leave(m, journal, answers, p, peak);
+    steps5to8::arrive(m, journal, p, selects, target)
 }

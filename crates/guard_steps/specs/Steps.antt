@@ -4,7 +4,7 @@ use Prim.Native.Nat.{ℕ}
 use mathlib.Core.Bool.{cond}
 use lib.Dec.{eqb}
 use Rattle.plan.specs.declared.Plan.{Plan}
-use Rattle.flash_moves.specs.Selects.{onDll1, moved}
+use Rattle.guard_steps.specs.flash.{onDll1, moved}
 use Rattle.clock_read.specs.Hpsys.{reg}
 use Rattle.journal.specs.Run.{Effect, idle, store}
 

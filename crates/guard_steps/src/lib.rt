@@ -1,4 +1,8 @@
 // The steps of the guarded change that move the flash selects and the core's.
+pub mod flash;
+pub mod peak;
+pub mod supply;
+
 ghost use mathlib.Core.Path.{_≡_};
 ghost use mathlib.Core.Bool.{true};
 ghost use Rattle.plan.specs.Plan.{legal};
@@ -19,8 +23,8 @@ pub fn leave_dll1(m: Machine, journal: &mut [u32]) -> Machine
 {
     let head = m.head;
     let selects = head.regs[5];
-    if flash_moves::is_on_dll1(selects) {
-        return m.store(journal, 5, flash_moves::moved(selects));
+    if flash::is_on_dll1(selects) {
+        return m.store(journal, 5, flash::moved(selects));
     }
     m
 }
@@ -60,7 +64,7 @@ pub fn back_to(m: Machine, journal: &mut [u32], selects: u32) -> Machine
     ensures { λ r. ⌜ Kept 1 m r ⌝ }
     ensures { λ r. ⌜ r .taken ≡ m .taken ⌝ }
 {
-    let were_moved = flash_moves::is_on_dll1(selects);
+    let were_moved = flash::is_on_dll1(selects);
     if were_moved {
         return m.store(journal, 5, selects);
     }

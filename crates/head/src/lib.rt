@@ -1,4 +1,8 @@
 // A head as a value: 34 registers, ready flags and booked tasks.
+pub mod from_bytes;
+pub mod tasks;
+pub mod to_bytes;
+
 pub use task::Task;
 
 pub struct Head {

@@ -10,7 +10,7 @@ use Rattle.journal.specs.declared.Machine.{Machine}
 use Rattle.journal.specs.Run.{Run, Effect, idle, halted, _▸_, store}
 use Rattle.journal.specs.Machine.{Reached}
 use Rattle.calibration.specs.Calibration.{calibrateHrc48}
-use Rattle.init_warning.specs.Warning.{warning, swallowed}
+use Rattle.init_first.specs.warning.{warning, swallowed}
 
 -- LRC32 on, the low-power clock on Lrc32 (1), the DLL buffer on
 unfoldable pub bootStores : Effect

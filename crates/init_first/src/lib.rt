@@ -1,13 +1,16 @@
 // rcc/clock_config.rs, `init` before the core clock, on all but a standby boot: the low-power clocks, calibration.
+pub mod begin;
+pub mod warning;
+
 ghost use mathlib.Core.Path.{_≡_};
 ghost use Prim.Native.Nat.{_≤_};
 ghost use lib.ListN.{length};
 ghost use Rattle.journal.specs.Run.{_▸_};
 ghost use Rattle.journal.specs.Machine.{Ran, Ready, Kept};
 ghost use Rattle.init_first.specs.First.{bootStores, leaveHrc48, calibrating, initFirst, Warned};
-use init_warning::Calibrated;
 use journal::Machine;
 use plan::Plan;
+use warning::Calibrated;
 
 fn boot_stores(m: Machine, journal: &mut [u32]) -> Machine
     requires { ⌜ Ready 3 m (now journal) ⌝ }
@@ -62,5 +65,5 @@ pub fn init_first(m: Machine, journal: &mut [u32], answers: &[u16], p: Plan) -> 
 {
     let m = boot_stores(m, journal);
     let m = calibrate(m, journal, answers, p);
-    init_warning::swallow(m)
+    warning::swallow(m)
 }

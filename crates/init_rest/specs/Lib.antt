@@ -1,1 +1,3 @@
 pub mod Rest
+pub mod flash
+pub mod selects

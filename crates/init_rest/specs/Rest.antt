@@ -12,8 +12,8 @@ use Rattle.register.specs.Word.{bit}
 use Rattle.clock_read.specs.Hpsys.{reg}
 use Rattle.journal.specs.Run.{Effect, idle, _▸_, store}
 use Rattle.dll.specs.Dll.{configureDll}
-use Rattle.flash_select.specs.FlashSelect.{flashBack}
-use Rattle.init_selects.specs.Selects.{plannedUsb, plannedMuxes}
+use Rattle.init_rest.specs.flash.{flashBack}
+use Rattle.init_rest.specs.selects.{plannedUsb, plannedMuxes}
 
 -- DLL2 is on already, at the plan's stage and half
 unfoldable pub isSet : Dll → ℕ → Bool

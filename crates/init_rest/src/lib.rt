@@ -1,4 +1,7 @@
 // rcc/clock_config.rs, `init` after the core clock: DLL2, then USB and the other selects.
+pub mod flash;
+pub mod selects;
+
 ghost use mathlib.Core.Path.{_≡_};
 ghost use mathlib.Core.Bool.{true};
 ghost use Prim.Native.Nat.{_≤_};
@@ -64,7 +67,7 @@ fn set_dll2(m: Machine, journal: &mut [u32], answers: &[u16], d: Dll) -> Machine
     if is_set(d, word) {
         return m;
     }
-    let back = flash_select::flash_back(head.regs[5]);
+    let back = flash::flash_back(head.regs[5]);
     move_dll2(m, journal, answers, d, back)
 }
 
@@ -92,6 +95,6 @@ pub fn init_rest(m: Machine, journal: &mut [u32], answers: &[u16], p: Plan, usb_
 {
     let dll2 = p.dll2;
     let m = configure_dll2(m, journal, answers, dll2);
-    let m = init_selects::configure_usb(m, journal, p, usb_div);
-    init_selects::configure_muxes(m, journal, p)
+    let m = selects::configure_usb(m, journal, p, usb_div);
+    selects::configure_muxes(m, journal, p)
 }

@@ -1,4 +1,6 @@
 // The share of a task, and the load of a list of tasks.
+pub mod check;
+
 ghost use mathlib.Core.Path.{_≡_};
 ghost use Prim.Native.Nat.{_≤_};
 ghost use lib.ListN.{length, take};

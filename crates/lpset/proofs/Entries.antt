@@ -5,7 +5,7 @@ use lib.ListN.{length}
 use Rattle.call.specs.declared.Answer.{Answer}
 use Rattle.call.specs.Call.{Answers}
 use Rattle.call.proofs.Entries.{performed-within}
-use Rattle.lpsys_frequency.specs.Calls.{lpsysRequest}
+use Rattle.lpsys_request.specs.frequency.{lpsysRequest}
 
 pub entries-within : (mhz : ℕ) (b j b' j' : List ℕ) (r : Answer) → Answers (lpsysRequest mhz b j) r b' j' → r .entries ≤ length j'
 unfolding lpsysRequest

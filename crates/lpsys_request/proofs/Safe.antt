@@ -6,7 +6,7 @@ use mathlib.Core.List.{List}
 use native.Mathlib.Omega.{arith}
 use native.Mathlib.Nat.{div-le-of-le-mul}
 use native.Mathlib.Decide.{decLe}
-use Rattle.lpsys_switch.specs.LpsysSwitch.{lpsysD2sFirst, lpsysS2dFirst, lpsysS2dSecond}
+use Rattle.dvfs_lpsys.specs.switch.{lpsysD2sFirst, lpsysS2dFirst, lpsysS2dSecond}
 use lib.Dec.{eqb}
 use lib.ListN.{length, getD, set, length-set}
 use lib.Seq.{getD-set-same, getD-set-other}
@@ -18,16 +18,16 @@ use Rattle.head.specs.declared.Head.{Head}
 use Rattle.register.specs.Word.{wordOf, byteA, byteB, byteC}
 use Rattle.head.specs.Encodable.{Encodable}
 use Rattle.clock_read.specs.Hpsys.{reg, hertz, hclkOf}
-use Rattle.lpsys_read.specs.Lpsys.{lpsysSysOf, lpsysHclkOf}
+use Rattle.clock_read.specs.lpsys.{lpsysSysOf, lpsysHclkOf}
 use Rattle.journal.specs.Run.{Run, begin, going, store, delayed, delay}
 use Rattle.journal.proofs.Moments.{Moments, moments-begin, moments-now, moments-store, moments-delay}
-use Rattle.dvfs_lpsys_modes.specs.declared.LpsysDvfsMode.{LpsysDvfsMode}
-use Rattle.dvfs_lpsys_modes.specs.declared.LpsysDvfsMode.the-variants.{D, S}
-use Rattle.dvfs_lpsys_modes.specs.Lpsys.{lpsysModeOf}
-use Rattle.lpsys_modes.specs.Modes.{dividerFor, presentMode}
-use Rattle.lpsys_modes.proofs.Divider.{divider-slow, divider-small}
-use Rattle.lpsys_modes.proofs.Modes.{request-d, request-s}
-use Rattle.lpsys_hdiv.specs.Hdiv.{setHdiv}
+use Rattle.dvfs.specs.declared.lpsys.LpsysDvfsMode.{LpsysDvfsMode}
+use Rattle.dvfs.specs.declared.lpsys.LpsysDvfsMode.the-variants.{D, S}
+use Rattle.dvfs.specs.lpsys.{lpsysModeOf}
+use Rattle.lpsys_request.specs.modes.{dividerFor, presentMode}
+use Rattle.lpsys_request.proofs.modes.Divider.{divider-slow, divider-small}
+use Rattle.lpsys_request.proofs.modes.Laws.{request-d, request-s}
+use Rattle.lpsys_request.specs.hdiv.{setHdiv}
 use Rattle.lpsys_request.specs.Request.{request}
 use Rattle.lpsys_request.specs.Safe.{lpsysHz, LpsysSafe}
 

@@ -2,8 +2,8 @@
 use Prim.Native.Nat.{ℕ}
 use Rattle.journal.specs.Run.{Effect, _▸_}
 use Rattle.dvfs_lpsys.specs.LpsysModes.{lpsysFirst, lpsysSecond}
-use Rattle.lpsys_modes.specs.Modes.{dividerFor, presentMode, requestMode}
-use Rattle.lpsys_hdiv.specs.Hdiv.{setHdiv}
+use Rattle.lpsys_request.specs.modes.{dividerFor, presentMode, requestMode}
+use Rattle.lpsys_request.specs.hdiv.{setHdiv}
 
 -- `config_lpsys_hclk_mhz`, "an LPSYS request": the transition's first half, the divider, its second half
 unfoldable pub request : ℕ → Effect

@@ -1,4 +1,9 @@
 // The LPSYS request on a running call: the divider, and the halves of the transition round it.
+pub mod frequency;
+pub mod hdiv;
+pub mod modes;
+pub mod slow;
+
 ghost use mathlib.Core.Path.{_≡_};
 ghost use Prim.Native.Nat.{_≤_};
 ghost use Rattle.journal.specs.Machine.{Ran, Ready, Kept};
@@ -13,10 +18,10 @@ pub fn request(m: Machine, journal: &mut [u32], mhz: u32) -> Machine
     ensures { λ r. ⌜ r .taken ≡ m .taken ⌝ }
 {
     let head = m.head;
-    let current = lpsys_modes::present_mode(head);
-    let target = lpsys_modes::request_mode(mhz);
-    let hdiv = lpsys_modes::divider_for(mhz, head);
+    let current = modes::present_mode(head);
+    let target = modes::request_mode(mhz);
+    let hdiv = modes::divider_for(mhz, head);
     let m = dvfs_lpsys::config_lpsys_dvfs_first(m, journal, current, target);
-    let m = lpsys_hdiv::set_hdiv(m, journal, hdiv);
+    let m = hdiv::set_hdiv(m, journal, hdiv);
     dvfs_lpsys::config_lpsys_dvfs_second(m, journal, current, target)
 }

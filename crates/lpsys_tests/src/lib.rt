@@ -1,4 +1,6 @@
 // The tests of what the calls of rcc/clock_lpsys.rs are given. Each answers 0, or the refusal.
+pub mod words;
+
 ghost use mathlib.Core.Path.{_≡_};
 ghost use Rattle.lpsys_tests.specs.Tests.{requestRefusal, divRefusal, sourceRefusal};
 

@@ -1,1 +1,3 @@
 pub mod Wake
+pub mod count
+pub mod hxt48

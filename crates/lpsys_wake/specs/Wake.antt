@@ -4,7 +4,7 @@ use mathlib.Core.Bool.{cond}
 use mathlib.Core.List.{List}
 use lib.Dec.{eqb}
 use Rattle.journal.specs.Run.{Effect, idle, _▸_, store, delay, wait}
-use Rattle.wake_count.specs.Count.{countUp, countDown}
+use Rattle.lpsys_wake.specs.count.{countUp, countDown}
 
 -- `wake_lcpu`: the request and a first wait, a second one, the count
 unfoldable pub wakeFirst : List ℕ → Effect

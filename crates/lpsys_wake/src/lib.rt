@@ -1,4 +1,7 @@
 // Waking the LPSYS core, and cancelling that, on a running call.
+pub mod count;
+pub mod hxt48;
+
 ghost use mathlib.Core.Path.{_≡_};
 ghost use Prim.Native.Nat.{_≤_};
 ghost use lib.ListN.{length};
@@ -28,7 +31,7 @@ pub fn wake(m: Machine, journal: &mut [u32], answers: &[u16]) -> Machine
     let m = wake_first(m, journal, answers);
     let m = journal::delay_us(m, journal, 30);
     let m = waits::wait_for(m, journal, answers, 6);
-    wake_count::count_up(m)
+    count::count_up(m)
 }
 
 pub fn cancel(m: Machine, journal: &mut [u32]) -> Machine
@@ -38,7 +41,7 @@ pub fn cancel(m: Machine, journal: &mut [u32]) -> Machine
 {
     let head = m.head;
     let count = head.wake_count;
-    let m = wake_count::count_down(m);
+    let m = count::count_down(m);
     if count == 1 {
         return m.store(journal, 33, 0);
     }

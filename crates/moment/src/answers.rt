@@ -11,7 +11,7 @@ pub fn words(bytes: &[u8], answers: &mut [u16]) -> usize
         if bytes.len() / 2 <= i {
             return i;
         }
-        answers[i] = record_bytes::two_bytes(bytes[2 * i], bytes[2 * i + 1]);
+        answers[i] = record::two_bytes(bytes[2 * i], bytes[2 * i + 1]);
         i += 1;
     }
     i

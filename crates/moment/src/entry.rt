@@ -4,7 +4,7 @@ ghost use mathlib.Core.Path.{_≡_};
 ghost use Prim.Native.Nat.{_/_, _%_, _<_};
 ghost use Rattle.record.specs.Items.{joined, laid};
 ghost use Rattle.register.specs.Word.{wordBytes};
-ghost use Rattle.register_bytes.specs.Registers.{bufferBytes, registersIn};
+ghost use Rattle.register.specs.bytes.{bufferBytes, registersIn};
 ghost use Rattle.journal.specs.Run.{applied};
 
 const VALUES: u32 = 16777216;
@@ -39,6 +39,6 @@ pub fn store(entry: u32, buffer: &mut [u8])
     requires { ⌜ length (now buffer) ≡ bufferBytes ⌝ }
     ensures { λ _. ⌜ now (buffer .exit) ≡ laid 3 (joined wordBytes (drop 1 (applied (registersIn (now (buffer .entry))) entry))) (now (buffer .entry)) ⌝ }
 {
-    let regs = after(register_bytes::read(buffer), entry);
-    register_bytes::write(regs, buffer);
+    let regs = after(register::bytes::read(buffer), entry);
+    register::bytes::write(regs, buffer);
 }

@@ -14,7 +14,7 @@ pub fn write(refusal: u8) {
     say(b"refused ");
     io::print_decimal(STDOUT_FILENO, refusal as u64);
     say(b": ");
-    refusal_words::say_words(refusal);
+    crate::refusal::say_words(refusal);
     say(b"\n");
 }
 

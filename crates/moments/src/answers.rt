@@ -6,6 +6,6 @@ pub fn read(answers: &mut [u16]) -> usize
     ensures { λ r. ⌜ Counts r (now (answers .exit)) ⌝ }
 {
     let mut bytes = io::large_buffer();
-    let count = argument_file::read(3, &mut bytes);
+    let count = text::file::read(3, &mut bytes);
     moment::answers::words(&bytes[..count], answers)
 }

@@ -3,6 +3,11 @@
 // head as it was and after each entry of the journal, and then the answer. The files stay as they are.
 mod answer;
 mod answers;
+mod columns;
+mod entry;
+mod line;
+mod refusal;
+mod store;
 
 // One more than a call takes, so that a longer file of answers is refused.
 const ANSWERS: usize = 4097;
@@ -13,8 +18,8 @@ fn show(buffer: &mut [u8], entries: &[u32]) {
     if admitted.refusal != 0 {
         return;
     }
-    moment_line::heading();
-    moment_line::first(admitted.head);
+    line::heading();
+    line::first(admitted.head);
     let mut i = 0;
     while i < entries.len() {
         let entry = entries[i];
@@ -28,10 +33,10 @@ fn show(buffer: &mut [u8], entries: &[u32]) {
 fn show_next(number: u64, entry: u32, buffer: &[u8]) {
     let admitted = call::admit_head(buffer);
     if admitted.refusal != 0 {
-        moment_line::unread(number, entry);
+        line::unread(number, entry);
         return;
     }
-    moment_line::next(number, entry, admitted.head);
+    line::next(number, entry, admitted.head);
 }
 
 // The change is made on `copy`, and `kept` has the same bytes.
@@ -45,10 +50,10 @@ fn change(copy: &mut [u8], kept: &mut [u8], plan: &[u8], answers: &[u16]) {
 
 fn run() {
     let mut head = io::buffer();
-    let head_bytes = argument_file::read(1, &mut head);
+    let head_bytes = text::file::read(1, &mut head);
     let mut copy = head;
     let mut plan = io::buffer();
-    let plan_bytes = argument_file::read(2, &mut plan);
+    let plan_bytes = text::file::read(2, &mut plan);
     let mut answers = [0u16; ANSWERS];
     let count = answers::read(&mut answers);
     change(

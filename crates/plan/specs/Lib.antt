@@ -1,2 +1,5 @@
 pub mod Code
 pub mod Plan
+pub mod codes
+pub mod tests
+pub mod bytes

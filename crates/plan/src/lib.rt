@@ -1,4 +1,8 @@
 // A plan as a value: rcc/clock_config.rs, `ConfigBuilder`.
+pub mod bytes;
+pub mod codes;
+pub mod tests;
+
 use clock::MaybeDll;
 
 // A plan, its fields under the names of the source and in the record's codes.

@@ -1,4 +1,6 @@
 // The 34 registers of a head record: their numbers, their words and their codes.
+pub mod bytes;
+
 ghost use mathlib.Core.Path.{_≡_};
 ghost use Prim.Native.Nat.{_<_};
 ghost use Rattle.register.specs.Word.{wordOf, byteA, byteB, byteC};

@@ -6,11 +6,11 @@ use native.Mathlib.Omega.{arith}
 use lib.ListN.{length, take, replicate}
 use Rattle.call.specs.declared.Answer.{Answer}
 use Rattle.call.specs.Call.{Result, Answers}
-use Rattle.answered.specs.Answer.{unused}
-use Rattle.line_numbers.specs.Joined.{joined}
-use Rattle.given_text.specs.Given.{givenText}
-use Rattle.left_text.specs.Left.{leftText}
-use Rattle.config_call.proofs.Laws.{lent-most}
+use Rattle.recorded_answer.specs.Answer.{unused}
+use Rattle.recorded_line.specs.numbers.{joined}
+use Rattle.recorded_answer.specs.given.{givenText}
+use Rattle.recorded_answer.specs.left.{leftText}
+use Rattle.recorded_config.proofs.kinds.Laws.{lent-most}
 use Rattle.replay.specs.declared.calls.Call.{Call}
 use Rattle.replay.specs.declared.calls.Call.the-variants.{Lpsys, Config, Tasks}
 use Rattle.replay.specs.Line.{beside, lentClocks, resultOf, clocksAfter, lineOf}

@@ -4,14 +4,14 @@ use mathlib.Core.Path.{_≡_}
 use mathlib.Core.List.{List, _++_}
 use lib.ListN.{take, replicate}
 use Rattle.call.specs.Call.{Result}
-use Rattle.answered.specs.Answer.{unused}
-use Rattle.line_numbers.specs.Joined.{joined}
-use Rattle.given_text.specs.Given.{givenText}
-use Rattle.left_text.specs.Left.{resultText}
-use Rattle.config_call.specs.Clocks as clocks
-use Rattle.replay_lpsys.specs.Calls as lpsys
-use Rattle.replay_config.specs.Calls as config
-use Rattle.replay_tasks.specs.Calls as tasks
+use Rattle.recorded_answer.specs.Answer.{unused}
+use Rattle.recorded_line.specs.numbers.{joined}
+use Rattle.recorded_answer.specs.given.{givenText}
+use Rattle.recorded_answer.specs.left.{resultText}
+use Rattle.recorded_config.specs.kinds as clocks
+use Rattle.recorded_call.specs.lpsys as lpsys
+use Rattle.recorded_config.specs.Calls as config
+use Rattle.recorded_call.specs.tasks as tasks
 use Rattle.replay.specs.declared.calls.Call.{Call}
 use Rattle.replay.specs.declared.calls.Call.the-variants.{Lpsys, Config, Tasks}
 

@@ -7,16 +7,16 @@ ghost use Prim.Native.Nat.{_≤_};
 ghost use mathlib.Core.Path.{_≡_};
 ghost use lib.ListN.{length};
 ghost use Rattle.call.specs.Call.{Answers};
-ghost use Rattle.line_numbers.specs.Joined.{joined};
-ghost use Rattle.answered.specs.Answer.{AnswerWithin};
+ghost use Rattle.recorded_line.specs.numbers.{joined};
+ghost use Rattle.recorded_answer.specs.Answer.{AnswerWithin};
 ghost use Rattle.replay.specs.Line.{lentClocks, resultOf, clocksAfter, lineOf, Recorded};
-use answered::Outcome;
 use call::Answer;
+use recorded_answer::Outcome;
 
 pub enum Call {
-    Lpsys(replay_lpsys::Call),
-    Config(config_call::Call),
-    Tasks(replay_tasks::Call),
+    Lpsys(recorded_call::lpsys::Call),
+    Config(recorded_config::kinds::Call),
+    Tasks(recorded_call::tasks::Call),
 }
 
 fn lent_clocks(call: Call) -> usize
@@ -24,7 +24,7 @@ fn lent_clocks(call: Call) -> usize
 {
     match call {
         Call::Lpsys(_) => 0,
-        Call::Config(call) => config_call::lent_clocks(call),
+        Call::Config(call) => recorded_config::kinds::lent_clocks(call),
         Call::Tasks(_) => 0,
     }
 }
@@ -43,9 +43,16 @@ fn run(
     ensures { λ r. ⌜ r .entries ≤ length (now (journal .exit)) ⌝ }
 {
     match call {
-        Call::Lpsys(call) => replay_lpsys::run(call, argument, buffer, journal, answers),
-        Call::Config(call) => replay_config::run(call, argument, clocks, buffer, journal, answers),
-        Call::Tasks(call) => replay_tasks::run(call, argument, buffer),
+        Call::Lpsys(call) => recorded_call::lpsys::run(call, argument, buffer, journal, answers),
+        Call::Config(call) => recorded_config::run(
+            call,
+            argument,
+            clocks,
+            buffer,
+            journal,
+            answers,
+        ),
+        Call::Tasks(call) => recorded_call::tasks::run(call, argument, buffer),
     }
 }
 
@@ -67,10 +74,10 @@ fn run_line(
     ensures { λ r. ⌜ (r ≡ Outcome.Same → now (line .entry) ≡ lineOf call (now (name .entry)) (now (argument .entry)) (now (buffer .entry)) (now (answers .entry)) former) ⌝ }
 {
     let mut clocks = former;
-    let mut journal = [answered::UNUSED; 128];
+    let mut journal = [recorded_answer::UNUSED; 128];
     let answer = run(call, argument, &mut clocks, left, &mut journal, words);
     let shown = lent_clocks(call);
-    call_compare::compare(
+    recorded_answer::calls::compare(
         name,
         argument,
         buffer,
@@ -95,15 +102,15 @@ pub fn call_line(call: Call, name: &[u8], line: &[u8], text: &mut [u8]) -> Outco
     let mut buffer = [0u8; 2048];
     let mut answers = [0u8; 2048];
     let mut former = [0u8; 60];
-    let given = fields::decode(line, name.len(), &mut argument);
-    let held = fields::decode(line, given.next, &mut buffer);
-    let lent = fields::decode(line, held.next, &mut answers);
-    fields::decode(line, lent.next, &mut former);
+    let given = text::fields::decode(line, name.len(), &mut argument);
+    let held = text::fields::decode(line, given.next, &mut buffer);
+    let lent = text::fields::decode(line, held.next, &mut answers);
+    text::fields::decode(line, lent.next, &mut former);
     let a = given.count;
     let b = held.count;
     let n = lent.count;
     let mut words = [0u16; 1024];
-    let joined = line_numbers::join(&answers[..n], &mut words);
+    let joined = recorded_line::numbers::join(&answers[..n], &mut words);
     let mut left = buffer;
     run_line(
         call,
@@ -113,7 +120,7 @@ pub fn call_line(call: Call, name: &[u8], line: &[u8], text: &mut [u8]) -> Outco
         &mut left[..b],
         &answers[..n],
         &words[..joined],
-        line_numbers::clocks_in(&former),
+        recorded_line::numbers::clocks_in(&former),
         line,
         text,
     )

@@ -1,14 +1,14 @@
 // A file of records, replayed line by line.
 ghost use lib.ListN.{length};
-ghost use Rattle.answered.specs.Answer.{AnswerWithin};
+ghost use Rattle.recorded_answer.specs.Answer.{AnswerWithin};
 use crate::calls;
 use crate::calls::Call;
-use answered::Outcome;
-use lines::Line;
-use lines::Reader;
-use replay_readings::Reading;
-use replay_report::Tally;
-use replay_report::report;
+use crate::output::Tally;
+use crate::output::report;
+use crate::reading::Reading;
+use recorded_answer::Outcome;
+use text::lines::Line;
+use text::lines::Reader;
 
 // What the lines of a file record.
 pub enum Recorded {
@@ -25,7 +25,7 @@ fn compare(recorded: Recorded, name: &[u8], line: &[u8], text: &mut [u8]) -> Out
 {
     match recorded {
         Recorded::Call(call) => calls::call_line(call, name, line, text),
-        Recorded::Reading(reading) => replay_readings::reading_line(reading, name, line, text),
+        Recorded::Reading(reading) => crate::reading::reading_line(reading, name, line, text),
     }
 }
 

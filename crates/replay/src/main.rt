@@ -1,14 +1,15 @@
 // Replays recorded answers: those of the original Rust and, of load check, booking, release and the
 // guarded change, those of document 01. Each call has a file of its name, with a line for each time
-// that it was made: what it was given and what it answered (crate `replay_readings` and module
-// `calls`). Our answer to the same is compared with the recorded one, and of each file the program
+// that it was made: what it was given and what it answered (modules `reading` and `calls`). Our answer to the same is compared with the recorded one, and of each file the program
 // says how many lines differ.
 mod calls;
 mod files;
+mod output;
+mod reading;
 
 use calls::Call;
 use files::Recorded;
-use replay_readings::Reading;
+use reading::Reading;
 
 fn readings() {
     files::replay(Recorded::Reading(Reading::Plan), b"plan");
@@ -17,44 +18,44 @@ fn readings() {
     files::replay(Recorded::Reading(Reading::Load), b"load");
 }
 
-fn lpsys(call: replay_lpsys::Call, name: &[u8]) {
+fn lpsys(call: recorded_call::lpsys::Call, name: &[u8]) {
     files::replay(Recorded::Call(Call::Lpsys(call)), name);
 }
 
-fn config(call: config_call::Call, name: &[u8]) {
+fn config(call: recorded_config::kinds::Call, name: &[u8]) {
     files::replay(Recorded::Call(Call::Config(call)), name);
 }
 
-fn tasks(call: replay_tasks::Call, name: &[u8]) {
+fn tasks(call: recorded_call::tasks::Call, name: &[u8]) {
     files::replay(Recorded::Call(Call::Tasks(call)), name);
 }
 
 fn calls_of_lpsys() {
-    lpsys(replay_lpsys::Call::Request, b"request");
-    lpsys(replay_lpsys::Call::Safe, b"safe");
-    lpsys(replay_lpsys::Call::Wake, b"wake");
-    lpsys(replay_lpsys::Call::Cancel, b"cancel");
-    lpsys(replay_lpsys::Call::Hxt48, b"hxt48");
+    lpsys(recorded_call::lpsys::Call::Request, b"request");
+    lpsys(recorded_call::lpsys::Call::Safe, b"safe");
+    lpsys(recorded_call::lpsys::Call::Wake, b"wake");
+    lpsys(recorded_call::lpsys::Call::Cancel, b"cancel");
+    lpsys(recorded_call::lpsys::Call::Hxt48, b"hxt48");
 }
 
 fn setters_of_lpsys() {
-    lpsys(replay_lpsys::Call::Hdiv, b"hdiv");
-    lpsys(replay_lpsys::Call::Div, b"div");
-    lpsys(replay_lpsys::Call::Mac, b"mac");
-    lpsys(replay_lpsys::Call::Sysclk, b"sysclk");
-    lpsys(replay_lpsys::Call::Peri, b"peri");
+    lpsys(recorded_call::lpsys::Call::Hdiv, b"hdiv");
+    lpsys(recorded_call::lpsys::Call::Div, b"div");
+    lpsys(recorded_call::lpsys::Call::Mac, b"mac");
+    lpsys(recorded_call::lpsys::Call::Sysclk, b"sysclk");
+    lpsys(recorded_call::lpsys::Call::Peri, b"peri");
 }
 
 fn calls_of_config() {
-    config(config_call::Call::Calibrate, b"calibrate");
-    config(config_call::Call::Init, b"init");
-    config(config_call::Call::Reconfigure, b"reconfigure");
-    config(config_call::Call::Change, b"change");
+    config(recorded_config::kinds::Call::Calibrate, b"calibrate");
+    config(recorded_config::kinds::Call::Init, b"init");
+    config(recorded_config::kinds::Call::Reconfigure, b"reconfigure");
+    config(recorded_config::kinds::Call::Change, b"change");
 }
 
 fn calls_of_tasks() {
-    tasks(replay_tasks::Call::Book, b"book");
-    tasks(replay_tasks::Call::Release, b"release");
+    tasks(recorded_call::tasks::Call::Book, b"book");
+    tasks(recorded_call::tasks::Call::Release, b"release");
 }
 
 fn main() {

@@ -1,6 +1,6 @@
 // The guarded change.
 ghost use Rattle.guard.specs.Guard.{changeCall};
-ghost use Rattle.answer_word.specs.Word.{Gives};
+ghost use Rattle.call.specs.word.{Gives};
 
 #[no_mangle]
 pub extern "C" fn rikkovan_change(
@@ -11,5 +11,5 @@ pub extern "C" fn rikkovan_change(
 ) -> u64
     ensures { λ r. ⌜ Gives (changeCall (now (plan .entry)) (now (head .entry)) (now (journal .entry)) (now (answers .entry))) r (now (head .exit)) (now (journal .exit)) ⌝ }
 {
-    answer_word::of_answer(guard::change(head, plan, journal, answers))
+    call::word::of_answer(guard::change(head, plan, journal, answers))
 }

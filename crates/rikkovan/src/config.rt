@@ -1,9 +1,9 @@
 // The calls of rcc/clock_config.rs.
 ghost use mathlib.Core.Path.{_≡_};
-ghost use Rattle.calibration_call.specs.Calibration.{calibration};
-ghost use Rattle.init_call.specs.Calls.{initCall, initClocks};
-ghost use Rattle.reconfigure_call.specs.Calls.{reconfigureCall, reconfigureClocks};
-ghost use Rattle.answer_word.specs.Word.{Gives};
+ghost use Rattle.clock_config.specs.calibrate.{calibration};
+ghost use Rattle.clock_config.specs.init.{initCall, initClocks};
+ghost use Rattle.clock_config.specs.reconfigure.{reconfigureCall, reconfigureClocks};
+ghost use Rattle.call.specs.word.{Gives};
 
 #[no_mangle]
 pub extern "C" fn rikkovan_calibrate_hrc48(
@@ -13,7 +13,7 @@ pub extern "C" fn rikkovan_calibrate_hrc48(
 ) -> u64
     ensures { λ r. ⌜ Gives (calibration (now (head .entry)) (now (journal .entry)) (now (answers .entry))) r (now (head .exit)) (now (journal .exit)) ⌝ }
 {
-    answer_word::of_answer(calibration_call::calibrate_hrc48(head, journal, answers))
+    call::word::of_answer(clock_config::calibrate::calibrate_hrc48(head, journal, answers))
 }
 
 // `clocks` is written on every answer: all 0 on a refusal.
@@ -28,7 +28,7 @@ pub extern "C" fn rikkovan_init(
     ensures { λ r. ⌜ Gives (initCall (now (plan .entry)) (now (head .entry)) (now (journal .entry)) (now (answers .entry))) r (now (head .exit)) (now (journal .exit)) ⌝ }
     ensures { λ _. ⌜ now (clocks .exit) ≡ initClocks (now (plan .entry)) (now (head .entry)) (now (journal .entry)) (now (answers .entry)) ⌝ }
 {
-    answer_word::of_answer(init_call::init(head, plan, clocks, journal, answers))
+    call::word::of_answer(clock_config::init::init(head, plan, clocks, journal, answers))
 }
 
 // `clocks` holds the former frequencies, then the new ones; on a refusal it stays.
@@ -43,7 +43,7 @@ pub extern "C" fn rikkovan_reconfigure_sysclk(
     ensures { λ r. ⌜ Gives (reconfigureCall (now (plan .entry)) (now (head .entry)) (now (journal .entry)) (now (answers .entry))) r (now (head .exit)) (now (journal .exit)) ⌝ }
     ensures { λ _. ⌜ now (clocks .exit) ≡ reconfigureClocks (now (clocks .entry)) (now (plan .entry)) (now (head .entry)) (now (journal .entry)) (now (answers .entry)) ⌝ }
 {
-    answer_word::of_answer(reconfigure_call::reconfigure_sysclk(
+    call::word::of_answer(clock_config::reconfigure::reconfigure_sysclk(
         head,
         plan,
         clocks,

@@ -5,17 +5,17 @@ mod lpsys;
 mod tasks;
 
 ghost use mathlib.Core.Path.{_≡_};
-ghost use Rattle.head_record.specs.Record.{headRefusal, headOf};
-ghost use Rattle.head_clocks.specs.Clocks.{clocksOf, lpsysOf, unlessRefused};
+ghost use Rattle.head.specs.from_bytes.Record.{headRefusal, headOf};
+ghost use Rattle.readings.specs.Clocks.{clocksOf, lpsysOf, unlessRefused};
 ghost use Rattle.verdict.specs.Verdict.{verdict, numberOf};
-ghost use Rattle.answer_word.specs.Word.{packed};
+ghost use Rattle.call.specs.word.{packed};
 
 // 0 for an accepted plan, else its refusal number.
 #[no_mangle]
 pub extern "C" fn rikkovan_plan_check(bytes: &[u8]) -> u64
     ensures { λ r. ⌜ r ≡ numberOf (verdict (now (bytes .entry))) ⌝ }
 {
-    planned::check(bytes) as u64
+    verdict::planned::check(bytes) as u64
 }
 
 // The 15 frequencies of a head, 0 for none; on a refusal `clocks` stays.
@@ -24,7 +24,7 @@ pub extern "C" fn rikkovan_read_clocks(head: &[u8], clocks: &mut [u32; 15]) -> u
     ensures { λ r. ⌜ r ≡ packed (headRefusal (now (head .entry))) 0 0 0 ⌝ }
     ensures { λ _. ⌜ now (clocks .exit) ≡ unlessRefused (now (head .entry)) (clocksOf (headOf (now (head .entry)))) (now (clocks .entry)) ⌝ }
 {
-    answer_word::pack(head_clocks::read_clocks(head, clocks), 0, 0, 0)
+    call::word::pack(readings::read_clocks(head, clocks), 0, 0, 0)
 }
 
 // The six frequencies of LPSYS, 0 for none; on a refusal `lpsys` stays.
@@ -33,5 +33,5 @@ pub extern "C" fn rikkovan_read_lpsys(head: &[u8], lpsys: &mut [u32; 6]) -> u64
     ensures { λ r. ⌜ r ≡ packed (headRefusal (now (head .entry))) 0 0 0 ⌝ }
     ensures { λ _. ⌜ now (lpsys .exit) ≡ unlessRefused (now (head .entry)) (lpsysOf (headOf (now (head .entry)))) (now (lpsys .entry)) ⌝ }
 {
-    answer_word::pack(head_clocks::read_lpsys(head, lpsys), 0, 0, 0)
+    call::word::pack(readings::read_lpsys(head, lpsys), 0, 0, 0)
 }

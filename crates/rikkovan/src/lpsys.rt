@@ -1,9 +1,9 @@
 // The LPSYS calls.
-ghost use Rattle.lpsys_frequency.specs.Calls.{lpsysRequest, safeFrequency};
+ghost use Rattle.lpsys_request.specs.frequency.{lpsysRequest, safeFrequency};
 ghost use Rattle.clock_lpsys.specs.Calls.{wakeLcpu, cancelLcpu, ensureHxt48};
-ghost use Rattle.lpsys_dividers.specs.Dividers.{setLpsysHdiv, setLpsysDiv, configMac};
-ghost use Rattle.lpsys_selects.specs.Selects.{selectSysclk, selectPeri};
-ghost use Rattle.answer_word.specs.Word.{Gives};
+ghost use Rattle.clock_lpsys.specs.dividers.{setLpsysHdiv, setLpsysDiv, configMac};
+ghost use Rattle.clock_lpsys.specs.selects.{selectSysclk, selectPeri};
+ghost use Rattle.call.specs.word.{Gives};
 use time::Megahertz;
 
 #[no_mangle]
@@ -14,28 +14,28 @@ pub extern "C" fn rikkovan_config_lpsys_hclk_mhz(
 ) -> u64
     ensures { λ r. ⌜ Gives (lpsysRequest «freq_mhz» (now (head .entry)) (now (journal .entry))) r (now (head .exit)) (now (journal .exit)) ⌝ }
 {
-    answer_word::of_answer(clock_lpsys::config_lpsys_hclk_mhz(head, Megahertz(freq_mhz), journal))
+    call::word::of_answer(clock_lpsys::config_lpsys_hclk_mhz(head, Megahertz(freq_mhz), journal))
 }
 
 #[no_mangle]
 pub extern "C" fn rikkovan_ensure_safe_lcpu_frequency(head: &mut [u8], journal: &mut [u32]) -> u64
     ensures { λ r. ⌜ Gives (safeFrequency (now (head .entry)) (now (journal .entry))) r (now (head .exit)) (now (journal .exit)) ⌝ }
 {
-    answer_word::of_answer(clock_lpsys::ensure_safe_lcpu_frequency(head, journal))
+    call::word::of_answer(clock_lpsys::ensure_safe_lcpu_frequency(head, journal))
 }
 
 #[no_mangle]
 pub extern "C" fn rikkovan_wake_lcpu(head: &mut [u8], journal: &mut [u32], answers: &[u16]) -> u64
     ensures { λ r. ⌜ Gives (wakeLcpu (now (head .entry)) (now (journal .entry)) (now (answers .entry))) r (now (head .exit)) (now (journal .exit)) ⌝ }
 {
-    answer_word::of_answer(clock_lpsys::wake_lcpu(head, journal, answers))
+    call::word::of_answer(clock_lpsys::wake_lcpu(head, journal, answers))
 }
 
 #[no_mangle]
 pub extern "C" fn rikkovan_cancel_lcpu_active_request(head: &mut [u8], journal: &mut [u32]) -> u64
     ensures { λ r. ⌜ Gives (cancelLcpu (now (head .entry)) (now (journal .entry))) r (now (head .exit)) (now (journal .exit)) ⌝ }
 {
-    answer_word::of_answer(clock_lpsys::cancel_lcpu_active_request(head, journal))
+    call::word::of_answer(clock_lpsys::cancel_lcpu_active_request(head, journal))
 }
 
 #[no_mangle]
@@ -46,14 +46,14 @@ pub extern "C" fn rikkovan_ensure_hxt48_ready(
 ) -> u64
     ensures { λ r. ⌜ Gives (ensureHxt48 (now (head .entry)) (now (journal .entry)) (now (answers .entry))) r (now (head .exit)) (now (journal .exit)) ⌝ }
 {
-    answer_word::of_answer(clock_lpsys::ensure_hxt48_ready(head, journal, answers))
+    call::word::of_answer(clock_lpsys::ensure_hxt48_ready(head, journal, answers))
 }
 
 #[no_mangle]
 pub extern "C" fn rikkovan_set_lpsys_hdiv(head: &mut [u8], hdiv: u8, journal: &mut [u32]) -> u64
     ensures { λ r. ⌜ Gives (setLpsysHdiv hdiv (now (head .entry)) (now (journal .entry))) r (now (head .exit)) (now (journal .exit)) ⌝ }
 {
-    answer_word::of_answer(clock_lpsys::set_lpsys_hdiv(head, hdiv, journal))
+    call::word::of_answer(clock_lpsys::set_lpsys_hdiv(head, hdiv, journal))
 }
 
 #[no_mangle]
@@ -66,7 +66,7 @@ pub extern "C" fn rikkovan_set_lpsys_div(
 ) -> u64
     ensures { λ r. ⌜ Gives (setLpsysDiv hdiv pdiv1 pdiv2 (now (head .entry)) (now (journal .entry))) r (now (head .exit)) (now (journal .exit)) ⌝ }
 {
-    answer_word::of_answer(clock_lpsys::set_lpsys_div(head, hdiv, pdiv1, pdiv2, journal))
+    call::word::of_answer(clock_lpsys::set_lpsys_div(head, hdiv, pdiv1, pdiv2, journal))
 }
 
 #[no_mangle]
@@ -78,7 +78,7 @@ pub extern "C" fn rikkovan_config_lpsys_mac_clock(
 ) -> u64
     ensures { λ r. ⌜ Gives (configMac macdiv macfreq (now (head .entry)) (now (journal .entry))) r (now (head .exit)) (now (journal .exit)) ⌝ }
 {
-    answer_word::of_answer(clock_lpsys::config_lpsys_mac_clock(head, macdiv, macfreq, journal))
+    call::word::of_answer(clock_lpsys::config_lpsys_mac_clock(head, macdiv, macfreq, journal))
 }
 
 #[no_mangle]
@@ -89,7 +89,7 @@ pub extern "C" fn rikkovan_select_lpsys_sysclk(
 ) -> u64
     ensures { λ r. ⌜ Gives (selectSysclk source (now (head .entry)) (now (journal .entry))) r (now (head .exit)) (now (journal .exit)) ⌝ }
 {
-    answer_word::of_answer(clock_lpsys::select_lpsys_sysclk(head, source, journal))
+    call::word::of_answer(clock_lpsys::select_lpsys_sysclk(head, source, journal))
 }
 
 #[no_mangle]
@@ -100,5 +100,5 @@ pub extern "C" fn rikkovan_select_lpsys_peri(
 ) -> u64
     ensures { λ r. ⌜ Gives (selectPeri source (now (head .entry)) (now (journal .entry))) r (now (head .exit)) (now (journal .exit)) ⌝ }
 {
-    answer_word::of_answer(clock_lpsys::select_lpsys_peri(head, source, journal))
+    call::word::of_answer(clock_lpsys::select_lpsys_peri(head, source, journal))
 }

@@ -1,29 +1,29 @@
 // Tasks: the load check, booking and release.
 ghost use mathlib.Core.Path.{_≡_};
 ghost use mathlib.Core.List.{[]};
-ghost use Rattle.load_check.specs.LoadCheck.{loadCheck, wordOf};
+ghost use Rattle.load.specs.check.{loadCheck, wordOf};
 ghost use Rattle.booking.specs.Booking.{book};
-ghost use Rattle.release.specs.Release.{release};
-ghost use Rattle.answer_word.specs.Word.{Gives};
+ghost use Rattle.booking.specs.release.{release};
+ghost use Rattle.call.specs.word.{Gives};
 
 // The load of a list of tasks of nine bytes each, or the refusal number with the top bit set.
 #[no_mangle]
 pub extern "C" fn rikkovan_load_check(tasks: &[u8]) -> u64
     ensures { λ r. ⌜ r ≡ wordOf (loadCheck (now (tasks .entry))) ⌝ }
 {
-    load_check::load_check(tasks).word()
+    load::check::load_check(tasks).word()
 }
 
 #[no_mangle]
 pub extern "C" fn rikkovan_book(head: &mut [u8], id: u8, cycles: u32, period_us: u32) -> u64
     ensures { λ r. ⌜ Gives (book (record { id = id; cycles = cycles; period = «period_us» }) (now (head .entry))) r (now (head .exit)) [] ⌝ }
 {
-    answer_word::of_answer(booking::book(head, id, cycles, period_us))
+    call::word::of_answer(booking::book(head, id, cycles, period_us))
 }
 
 #[no_mangle]
 pub extern "C" fn rikkovan_release(head: &mut [u8], id: u8) -> u64
     ensures { λ r. ⌜ Gives (release id (now (head .entry))) r (now (head .exit)) [] ⌝ }
 {
-    answer_word::of_answer(release::release(head, id))
+    call::word::of_answer(booking::release::release(head, id))
 }

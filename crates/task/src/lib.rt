@@ -1,4 +1,8 @@
 // A task.
+pub mod bytes;
+pub mod list;
+pub mod rules;
+
 pub struct Task {
     pub id: u8,
     pub cycles: u32,

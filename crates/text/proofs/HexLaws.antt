@@ -6,7 +6,7 @@ use native.Mathlib.Omega.{arith}
 use native.Mathlib.Numerals.{add-one}
 use lib.ListN.{length, take, getD}
 use lib.Seq.{take-all}
-use Rattle.hexadecimal.specs.Hex.{hexDigits}
+use Rattle.digits.specs.hexadecimal.{hexDigits}
 use Rattle.text.specs.Hex.{hexOf, hexField}
 use Rattle.text.specs.Text.{Puts}
 use Rattle.text.proofs.Putting.{puts-then}

@@ -1,7 +1,7 @@
 -- Fields of numbers in upper-case hexadecimal. Assumes nothing.
 use Prim.Native.Nat.{ℕ}
 use mathlib.Core.List.{List, [], _∷_, _++_}
-use Rattle.hexadecimal.specs.Hex.{hexDigits}
+use Rattle.digits.specs.hexadecimal.{hexDigits}
 
 -- `k` digits of each number, one after the other
 unfoldable pub hexOf : ℕ → List ℕ → List ℕ

@@ -1,4 +1,8 @@
 // Text that is put together in a lent buffer, part by part.
+pub mod fields;
+pub mod file;
+pub mod lines;
+
 ghost use Prim.Native.Nat.{_≤_};
 ghost use lib.ListN.{length};
 ghost use Rattle.text.specs.Decimal.{decimalOf, numberField};
@@ -52,7 +56,7 @@ pub fn put_bytes(bytes: &[u8], text: &mut [u8], at: usize) -> usize
     let mut end = put(b" ", text, at);
     let mut i = 0;
     while i < bytes.len() {
-        end = put(&hexadecimal::two_digits(bytes[i]), text, end);
+        end = put(&digits::hexadecimal::two_digits(bytes[i]), text, end);
         i += 1;
     }
     end
@@ -69,7 +73,7 @@ pub fn put_words(words: &[u32], text: &mut [u8], at: usize) -> usize
     let mut end = put(b" ", text, at);
     let mut i = 0;
     while i < words.len() {
-        end = put(&hexadecimal::eight_digits(words[i]), text, end);
+        end = put(&digits::hexadecimal::eight_digits(words[i]), text, end);
         i += 1;
     }
     end

@@ -1,4 +1,6 @@
 // time.rs: frequencies in hertz and in whole megahertz. The source is modified from embassy-stm32; see NOTICE.
+pub mod arithmetic;
+
 ghost use mathlib.Core.Path.{_≡_};
 ghost use Rattle.time.specs.Frequency.{megahertz, hzOr};
 

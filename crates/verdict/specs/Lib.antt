@@ -1,1 +1,3 @@
 pub mod Verdict
+pub mod tests
+pub mod planned

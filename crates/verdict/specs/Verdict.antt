@@ -4,11 +4,11 @@ use mathlib.Core.List.{List}
 use mathlib.Core.Bool.{cond}
 use lib.Dec.{eqb}
 use Rattle.plan.specs.declared.Plan.{Plan}
-use Rattle.plan_record.specs.declared.Decoded.{Decoded}
-use Rattle.plan_record.specs.declared.Decoded.the-variants.{Read, Unread}
-use Rattle.plan_record.specs.Record.{decoded}
+use Rattle.plan.specs.declared.bytes.Decoded.{Decoded}
+use Rattle.plan.specs.declared.bytes.Decoded.the-variants.{Read, Unread}
+use Rattle.plan.specs.bytes.{decoded}
 use Rattle.plan_clocks.specs.Clocks.{targetOf}
-use Rattle.plan_tests.specs.Tests.{planRefusal}
+use Rattle.verdict.specs.tests.{planRefusal}
 use Rattle.verdict.specs.declared.Verdict.{Verdict}
 use Rattle.verdict.specs.declared.Verdict.the-variants.{Accepted, Refused}
 

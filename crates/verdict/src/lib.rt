@@ -1,8 +1,11 @@
 // The verdict on a plan: rcc/clock_config.rs, `ConfigBuilder::check`.
+pub mod planned;
+pub mod tests;
+
 ghost use mathlib.Core.Path.{_≡_};
 ghost use mathlib.Core.Bool.{true};
 ghost use Rattle.plan.specs.Plan.{legal};
-ghost use Rattle.plan_tests.specs.Tests.{planRefusal};
+ghost use Rattle.verdict.specs.tests.{planRefusal};
 ghost use Rattle.verdict.specs.Verdict.{verdictOf};
 use plan::Plan;
 pub use plan_clocks::Target;
@@ -17,7 +20,7 @@ pub enum Verdict {
 pub fn check_plan(p: Plan) -> Verdict
     ensures { λ r. ⌜ r ≡ verdictOf p ⌝ }
 {
-    if !plan_record::is_legal(p) {
+    if !plan::bytes::is_legal(p) {
         return Verdict::Refused(3);
     }
     let refusal = refusal(p);
@@ -34,5 +37,5 @@ pub fn refusal(p: Plan) -> u8
 {
     let sources = plan_clocks::sources_of(p);
     let target = plan_clocks::target_from(p, sources);
-    plan_tests::refusal(p, sources, target)
+    tests::refusal(p, sources, target)
 }

@@ -1,5 +1,7 @@
 // Waits of a running call: polls take the lent answers one after the other, 0 not ready, else ready.
 // As in `journal`, the next machine is made at one place.
+pub mod hxt48;
+
 ghost use mathlib.Core.Path.{_≡_};
 ghost use Prim.Native.Nat.{_<_, _≤_};
 ghost use lib.ListN.{length, drop};

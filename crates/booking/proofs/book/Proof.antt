@@ -6,11 +6,11 @@ use Rattle.record.specs.Refusals.{firstOf}
 use Rattle.task.specs.declared.Task.{Task}
 use Rattle.task.specs.Task.{InBytes}
 use Rattle.head.specs.declared.Head.{Head}
-use Rattle.head_record.specs.Record.{headOf}
+use Rattle.head.specs.from_bytes.Record.{headOf}
 use Rattle.call.proofs.Ending.{call-unadmitted, call-refused-by, call-encodable, call-bytes, call-head}
 use Rattle.call.proofs.Changed.{call-changed}
-use Rattle.tasks.specs.Tasks.{withTask}
-use Rattle.booking_tests.specs.Tests.{bookTests}
+use Rattle.head.specs.tasks.{withTask}
+use Rattle.booking.specs.tests.{bookTests}
 use Rattle.booking.specs.Booking.{book}
 use Rattle.booking.proofs.Laws.{passed-room, passed-encodable}
 use Rattle.booking.proofs.book.Statement.{statement}

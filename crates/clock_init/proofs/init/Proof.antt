@@ -10,8 +10,8 @@ use Rattle.journal.specs.Run.{Run, idle, _▸_}
 use Rattle.journal.specs.Machine.{machineOf}
 use Rattle.journal.proofs.Reached.{ran-then, ran-idle}
 use Rattle.journal.proofs.Steps.{kept-then, kept-within, of-head}
-use Rattle.init_begin.specs.Begin.{initBegin}
-use Rattle.init_warning.specs.Warning.{warning}
+use Rattle.init_first.specs.begin.{initBegin}
+use Rattle.init_first.specs.warning.{warning}
 use Rattle.clock_init.specs.Init.{boot, init, initWarning}
 use borrow.Author.Needs.{needs}
 use Rattle.clock_init.proofs.init.Statement.{statement}

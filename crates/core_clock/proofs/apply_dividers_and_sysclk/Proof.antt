@@ -1,7 +1,7 @@
 -- `core_clock::apply_dividers_and_sysclk` meets its contract: one store after the other. Assumes nothing.
 use Rattle.journal.proofs.Steps.{both-quiet}
 use Rattle.core_clock.specs.CoreClock.{dividersAndSysclk}
-use Rattle.core_dividers.proofs.Fits.{sys-fits}
+use Rattle.core_clock.proofs.dividers.Fits.{sys-fits}
 use borrow.Author.Needs.{needs}
 use Rattle.core_clock.proofs.apply_dividers_and_sysclk.Statement.{statement}
 use Rattle.core_clock.proofs.apply_dividers_and_sysclk.Tie as tie

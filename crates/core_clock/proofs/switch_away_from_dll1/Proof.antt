@@ -10,7 +10,7 @@ use Rattle.clock_read.specs.Hpsys.{reg}
 use Rattle.journal.specs.Run.{idle, store}
 use Rattle.journal.proofs.Steps.{no-step, of-head}
 use Rattle.core_clock.specs.CoreClock.{switchAway}
-use Rattle.core_dividers.proofs.Fits.{select-fits}
+use Rattle.core_clock.proofs.dividers.Fits.{select-fits}
 use borrow.Author.Needs.{needs}
 use Rattle.core_clock.proofs.switch_away_from_dll1.Statement.{statement}
 use Rattle.core_clock.proofs.switch_away_from_dll1.Tie as tie

@@ -1,7 +1,7 @@
 -- `guard::change` meets its contract: the shared tests, the plan's, its own, then the steps. Assumes nothing.
 use native.Mathlib.Omega.{arith}
 use mathlib.Core.Path.{_≡_, sym, ap, _∙_}
-use Rattle.plan_record.specs.Record.{planOf}
+use Rattle.plan.specs.bytes.{planOf}
 use Rattle.plan_clocks.specs.declared.Target.{Target}
 use Rattle.plan_clocks.specs.Clocks.{targetOf}
 use Rattle.call.proofs.Admitting.{answers-room, started}

@@ -6,7 +6,7 @@ use Rattle.head.specs.declared.Head.{Head}
 use Rattle.clock_read.specs.Hpsys.{reg}
 use Rattle.journal.specs.Run.{idle, store}
 use Rattle.journal.proofs.Steps.{no-step, of-head}
-use Rattle.flash_moves.specs.Selects.{onDll1, moved}
+use Rattle.guard_steps.specs.flash.{onDll1, moved}
 use Rattle.guard_steps.specs.Steps.{leaveDll1}
 use borrow.Author.Needs.{needs}
 use Rattle.guard_steps.proofs.leave_dll1.Statement.{statement}

@@ -8,7 +8,7 @@ use Rattle.head.specs.declared.Head.{Head}
 use Rattle.clock_read.specs.Hpsys.{reg}
 use Rattle.journal.specs.Run.{idle, store}
 use Rattle.journal.proofs.Steps.{no-step, of-head}
-use Rattle.core_dividers.proofs.Fits.{select-fits}
+use Rattle.core_clock.proofs.dividers.Fits.{select-fits}
 use Rattle.guard_steps.specs.Steps.{toHxt48}
 use borrow.Author.Needs.{needs}
 use Rattle.guard_steps.proofs.to_hxt48.Statement.{statement}

@@ -1,5 +1,5 @@
 -- `guard_steps::to_planned` meets its contract: one store. Assumes nothing.
-use Rattle.core_dividers.proofs.Fits.{sys-fits}
+use Rattle.core_clock.proofs.dividers.Fits.{sys-fits}
 use Rattle.guard_steps.specs.Steps.{toPlanned}
 use borrow.Author.Needs.{needs}
 use Rattle.guard_steps.proofs.to_planned.Statement.{statement}

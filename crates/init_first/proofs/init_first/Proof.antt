@@ -4,7 +4,7 @@ use mathlib.Core.Path.{_≡_, refl, sym, ap, _∙_}
 use Rattle.journal.specs.declared.Machine.{Machine}
 use Rattle.journal.proofs.Steps.{both, kept-then}
 use Rattle.journal.proofs.Reached.{ran-then}
-use Rattle.init_warning.specs.Warning.{warning}
+use Rattle.init_first.specs.warning.{warning}
 use Rattle.init_first.specs.First.{initFirst}
 use borrow.Author.Needs.{needs}
 use Rattle.init_first.proofs.init_first.Statement.{statement}

@@ -5,7 +5,7 @@ use Rattle.head.specs.declared.Head.{Head}
 use Rattle.clock_read.specs.Hpsys.{reg}
 use Rattle.journal.specs.Run.{idle}
 use Rattle.journal.proofs.Steps.{no-step, of-head}
-use Rattle.flash_select.specs.FlashSelect.{flashBack}
+use Rattle.init_rest.specs.flash.{flashBack}
 use Rattle.init_rest.specs.Rest.{isSet, moveDll2, setDll2}
 use borrow.Author.Needs.{needs}
 use Rattle.init_rest.proofs.set_dll2.Statement.{statement}

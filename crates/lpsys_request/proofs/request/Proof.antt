@@ -5,8 +5,8 @@ use Rattle.journal.specs.declared.Machine.{Machine}
 use Rattle.journal.specs.Run.{Run, _▸_}
 use Rattle.journal.proofs.Reached.{ran-as, ran-then}
 use Rattle.dvfs_lpsys.specs.LpsysModes.{lpsysFirst, lpsysSecond}
-use Rattle.lpsys_modes.specs.Modes.{dividerFor, presentMode, requestMode}
-use Rattle.lpsys_hdiv.specs.Hdiv.{setHdiv}
+use Rattle.lpsys_request.specs.modes.{dividerFor, presentMode, requestMode}
+use Rattle.lpsys_request.specs.hdiv.{setHdiv}
 use Rattle.lpsys_request.specs.Request.{request}
 use borrow.Author.Needs.{needs}
 use Rattle.lpsys_request.proofs.request.Statement.{statement}

@@ -1,5 +1,5 @@
 -- `digits::hex::six_digits` meets its contract: each digit is the rest of another division by 16. Assumes nothing.
-use Rattle.hexadecimal.specs.Hex.{hexDigits}
+use Rattle.digits.specs.hexadecimal.{hexDigits}
 use borrow.Author.Needs.{needs}
 use Rattle.digits.proofs.hex.six_digits.Statement.{statement}
 use Rattle.digits.proofs.hex.six_digits.Tie as tie

@@ -1,14 +1,14 @@
 -- `replay::calls::run` meets its contract: each arm is the calls of one crate. Assumes nothing.
 use Rattle.replay.proofs.Recording.{within, beside-answers, beside-within}
-use Rattle.replay_lpsys.proofs.Laws as lpsys
-use Rattle.replay_config.proofs.Laws as config
-use Rattle.replay_tasks.proofs.Laws as tasks
+use Rattle.recorded_call.proofs.lpsys.Laws as lpsys
+use Rattle.recorded_config.proofs.Laws as config
+use Rattle.recorded_call.proofs.tasks.Laws as tasks
 use mathlib.Core.Path.{refl}
 use borrow.Author.Needs.{needs}
 use Rattle.replay.proofs.calls.run.Statement.{statement}
 use Rattle.replay.proofs.calls.run.Tie as tie
-use Rattle.replay_lpsys.proofs.run.Reads as run-reads′
-use Rattle.replay_tasks.proofs.run.Reads as run-reads′′
+use Rattle.recorded_call.proofs.lpsys.run.Reads as run-reads′
+use Rattle.recorded_call.proofs.tasks.run.Reads as run-reads′′
 
 enum-known-call : tie.Need-enum-known-call
 enum-known-call c = search needs

@@ -5,7 +5,7 @@ use Prim.Native.Nat.{_-_, _^_}
 use mathlib.Core.Path.{_≡_, sym}
 use native.Mathlib.Omega.{arith}
 use lib.ListN.{length}
-use Rattle.lines.specs.Reader.{Within}
+use Rattle.text.specs.lines.{Within}
 use borrow.Author.Needs.{needs}
 use Rattle.replay.proofs.files.replay_lines.Statement.{statement}
 use Rattle.replay.proofs.files.replay_lines.Tie as tie

@@ -1,5 +1,5 @@
 -- `rikkovan::change::rikkovan_change` meets its contract: the call's answer, packed. Assumes nothing.
-use Rattle.answer_word.proofs.Giving.{gives}
+use Rattle.call.proofs.word.Giving.{gives}
 use borrow.Author.Needs.{needs}
 use Rattle.rikkovan.proofs.change.rikkovan_change.Statement.{statement}
 use Rattle.rikkovan.proofs.change.rikkovan_change.Tie as tie

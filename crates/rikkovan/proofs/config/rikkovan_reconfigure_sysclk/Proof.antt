@@ -1,5 +1,5 @@
 -- `rikkovan::config::rikkovan_reconfigure_sysclk` meets its contract: the call's answer, packed. Assumes nothing.
-use Rattle.answer_word.proofs.Giving.{gives}
+use Rattle.call.proofs.word.Giving.{gives}
 use borrow.Author.Needs.{needs}
 use Rattle.rikkovan.proofs.config.rikkovan_reconfigure_sysclk.Statement.{statement}
 use Rattle.rikkovan.proofs.config.rikkovan_reconfigure_sysclk.Tie as tie

@@ -1,5 +1,5 @@
 -- `rikkovan::tasks::rikkovan_book` meets its contract: the call's answer, packed. Assumes nothing.
-use Rattle.answer_word.proofs.Giving.{gives}
+use Rattle.call.proofs.word.Giving.{gives}
 use borrow.Author.Needs.{needs}
 use Rattle.rikkovan.proofs.tasks.rikkovan_book.Statement.{statement}
 use Rattle.rikkovan.proofs.tasks.rikkovan_book.Tie as tie

@@ -1,7 +1,7 @@
 -- `rikkovan::tasks::rikkovan_load_check` meets its contract: the word of the load check. Assumes nothing.
 use mathlib.Core.Path.{ap, _∙_}
 use borrow.Author.Needs.{needs}
-use Rattle.load_check.specs.LoadCheck.{wordOf}
+use Rattle.load.specs.check.{wordOf}
 use Rattle.rikkovan.proofs.tasks.rikkovan_load_check.Statement.{statement}
 use Rattle.rikkovan.proofs.tasks.rikkovan_load_check.Tie as tie
 

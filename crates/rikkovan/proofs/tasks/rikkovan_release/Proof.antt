@@ -1,5 +1,5 @@
 -- `rikkovan::tasks::rikkovan_release` meets its contract: the call's answer, packed. Assumes nothing.
-use Rattle.answer_word.proofs.Giving.{gives}
+use Rattle.call.proofs.word.Giving.{gives}
 use borrow.Author.Needs.{needs}
 use Rattle.rikkovan.proofs.tasks.rikkovan_release.Statement.{statement}
 use Rattle.rikkovan.proofs.tasks.rikkovan_release.Tie as tie

@@ -1,0 +1,27 @@
+-- `clock_lpsys::dividers::config_lpsys_mac_clock` meets its contract: it has no test of its own. Assumes nothing.
+use Rattle.call.proofs.store.Tests.{no-own-test}
+use Rattle.clock_lpsys.specs.dividers.{configMac}
+use Rattle.lpsys_tests.proofs.words.Fits.{mac-fits}
+use borrow.Author.Needs.{needs}
+use Rattle.clock_lpsys.proofs.dividers.config_lpsys_mac_clock.Statement.{statement}
+use Rattle.clock_lpsys.proofs.dividers.config_lpsys_mac_clock.Tie as tie
+
+mac-word-requires : tie.Need-mac-word-requires
+mac-word-requires c κs = search needs
+
+store-once-requires : tie.Need-store-once-requires
+store-once-requires c κs = (search needs, λ z. rw (c .before .before .mac-word .ensures) (mac-fits _ _ (search needs) (search needs)))
+
+same-length : tie.Need-same-length
+same-length c = search needs
+
+same-length-2 : tie.Need-same-length-2
+same-length-2 c = search needs
+
+returns : tie.Need-returns
+unfolding configMac
+returns c = rw (c .before .before .before .before .before .before .before .mac-word .ensures, no-own-test) at (c .before .before .before .before .store-once .ensures)
+
+pub config-lpsys-mac-clock-spec : {M : Type 1} → statement M
+config-lpsys-mac-clock-spec =
+    tie.close (tie.spec mac-word-requires store-once-requires same-length same-length-2 returns)

@@ -1,0 +1,35 @@
+-- `clock_read::buses::get_pclk2_freq` meets its contract. Assumes nothing.
+use Rattle.clock_read.specs.buses.{pclk2Of}
+use borrow.Author.Needs.{needs}
+use Rattle.clock_read.proofs.buses.get_pclk2_freq.Statement.{statement}
+use Rattle.clock_read.proofs.buses.get_pclk2_freq.Tie as tie
+
+element-copy-out-c : tie.Need-element-copy-out-c
+element-copy-out-c c = search needs
+
+c-requires : tie.Need-c-requires
+c-requires c κs = search needs
+
+cast-pdiv2 : tie.Need-cast-pdiv2
+cast-pdiv2 c = search needs
+
+get-hclk-freq-requires : tie.Need-get-hclk-freq-requires
+get-hclk-freq-requires c κs = search needs
+
+prescale-requires : tie.Need-prescale-requires
+prescale-requires c κs = search needs
+
+returns : tie.Need-returns
+unfolding pclk2Of
+returns c = simp (c .prescale .ensures, c .before .get-hclk-freq .ensures, c .before .before .c .ensures)
+
+pub get-pclk2-freq-spec : {M : Type 1} → statement M
+get-pclk2-freq-spec =
+    tie.close
+    (tie.spec
+    element-copy-out-c
+    c-requires
+    cast-pdiv2
+    get-hclk-freq-requires
+    prescale-requires
+    returns)

@@ -1,0 +1,29 @@
+-- `clock_read::devices::flash_freq` meets its contract. Assumes nothing.
+use borrow.Author.Tests.{eq-eqb, ne-eqb}
+use Rattle.clock_read.specs.devices.{flashOf}
+use borrow.Author.Needs.{needs}
+use Rattle.clock_read.proofs.devices.flash_freq.Statement.{statement}
+use Rattle.clock_read.proofs.devices.flash_freq.Tie as tie
+
+get-clk-dll1-freq-requires : tie.Need-get-clk-dll1-freq-requires
+get-clk-dll1-freq-requires c κs = search needs
+
+returns : tie.Need-returns
+unfolding flashOf
+returns c = simp (eq-eqb _ _ (c .before .if1 .taken), c .get-clk-dll1-freq .ensures)
+
+get-clk-dll2-freq-requires : tie.Need-get-clk-dll2-freq-requires
+get-clk-dll2-freq-requires c κs = search needs
+
+returns-2 : tie.Need-returns-2
+unfolding flashOf
+returns-2 c = simp (ne-eqb _ _ (c .before .before .if1 .left), eq-eqb _ _ (c .before .if2 .taken), c .get-clk-dll2-freq .ensures)
+
+returns-3 : tie.Need-returns-3
+unfolding flashOf
+returns-3 c = simp (ne-eqb _ _ (c .before .if1 .left), ne-eqb _ _ (c .if2 .left))
+
+pub flash-freq-spec : {M : Type 1} → statement M
+flash-freq-spec =
+    tie.close
+    (tie.spec get-clk-dll1-freq-requires returns get-clk-dll2-freq-requires returns-2 returns-3)

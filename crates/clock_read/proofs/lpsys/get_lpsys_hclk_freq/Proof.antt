@@ -1,0 +1,23 @@
+-- `clock_read::lpsys::get_lpsys_hclk_freq` meets its contract. Assumes nothing.
+use Rattle.clock_read.specs.lpsys.{lpsysHclkOf}
+use borrow.Author.Needs.{needs}
+use Rattle.clock_read.proofs.lpsys.get_lpsys_hclk_freq.Statement.{statement}
+use Rattle.clock_read.proofs.lpsys.get_lpsys_hclk_freq.Tie as tie
+
+get-lpsys-sysclk-freq-requires : tie.Need-get-lpsys-sysclk-freq-requires
+get-lpsys-sysclk-freq-requires c κs = search needs
+
+get-lpsys-hclk-div-requires : tie.Need-get-lpsys-hclk-div-requires
+get-lpsys-hclk-div-requires c κs = search needs
+
+divide-requires : tie.Need-divide-requires
+divide-requires c κs = search needs
+
+returns : tie.Need-returns
+unfolding lpsysHclkOf
+returns c = simp (c .divide .ensures, c .before .before .get-lpsys-sysclk-freq .ensures, c .before .get-lpsys-hclk-div .ensures)
+
+pub get-lpsys-hclk-freq-spec : {M : Type 1} → statement M
+get-lpsys-hclk-freq-spec =
+    tie.close
+    (tie.spec get-lpsys-sysclk-freq-requires get-lpsys-hclk-div-requires divide-requires returns)

@@ -1,0 +1,30 @@
+-- `dll::words::off_word` meets its contract: half and stage stay. Assumes nothing.
+use mathlib.Core.Path.{refl}
+use native.Mathlib.Omega.{arith}
+use Rattle.clock_read.specs.Hpsys.{reg}
+use Rattle.dll.proofs.words.Fits.{dll-fits, dll-codes}
+use borrow.Author.Needs.{needs}
+use Rattle.dll.proofs.words.off_word.Statement.{statement}
+use Rattle.dll.proofs.words.off_word.Tie as tie
+
+mul-old : tie.Need-mul-old
+mul-old c = search needs
+
+element-copy-out-old : tie.Need-element-copy-out-old
+element-copy-out-old c = search needs
+
+b-requires : tie.Need-b-requires
+b-requires c κs = search needs
+
+c-requires : tie.Need-c-requires
+c-requires c κs = search needs
+
+word-requires : tie.Need-word-requires
+word-requires c κs = search needs
+
+returns : tie.Need-returns
+returns c = let codes = dll-codes (c .before .before .before .before .args .number) (c .before .before .before .before .args .t1) (c .before .before .before .before .pre .0) (c .before .before .before .before .pre .1 .0) (c .before .before .before .before .pre .1 .1) in simp (c .word .ensures, c .before .before .b .ensures, c .before .c .ensures) (refl, dll-fits _ 0 _ _ (c .before .before .before .before .pre .1 .0) (c .before .before .before .before .pre .1 .1) (omega arith) (codes .0) (codes .1))
+
+pub off-word-spec : {M : Type 1} → statement M
+off-word-spec =
+    tie.close (tie.spec mul-old element-copy-out-old b-requires c-requires word-requires returns)

@@ -1,0 +1,16 @@
+-- `dvfs::lpsys::LpsysDvfsMode::from_hertz` meets its contract. Assumes nothing.
+use borrow.Author.Needs.{needs}
+use Rattle.dvfs.proofs.lpsys.LpsysDvfsMode.from_hertz.Statement.{statement}
+use Rattle.dvfs.proofs.lpsys.LpsysDvfsMode.from_hertz.Tie as tie
+
+whole-mhz-requires : tie.Need-whole-mhz-requires
+whole-mhz-requires c κs = search needs
+
+from-frequency-requires : tie.Need-from-frequency-requires
+from-frequency-requires c κs = search needs
+
+returns : tie.Need-returns
+returns c = simp (c .from-frequency .ensures, c .before .whole-mhz .ensures)
+
+pub from-hertz-spec : {M : Type 1} → statement M
+from-hertz-spec = tie.close (tie.spec whole-mhz-requires from-frequency-requires returns)

@@ -1,0 +1,16 @@
+-- Supply transitions of LPSYS, pmu/dvfs.rs: "Closures passed to a transition become its first and second half." Assumes nothing.
+use Rattle.journal.specs.Run.{Effect, _▸_, store, delay}
+use Rattle.dvfs.specs.declared.lpsys.LpsysDvfsMode.{LpsysDvfsMode}
+use Rattle.dvfs.specs.declared.lpsys.LpsysDvfsMode.the-variants.{D, S}
+use Rattle.dvfs.specs.lpsys.{lpsysRowOf}
+
+-- `switch_lpsys_dvfs_d2s` before the clock: the ldo, supply S, 250 us
+unfoldable pub lpsysD2sFirst : Effect
+lpsysD2sFirst = store 29 (lpsysRowOf S .ldo) ▸ store 28 1 ▸ delay 250
+
+-- `switch_lpsys_dvfs_s2d` before the clock: the D supply's ldo; and after it: the timing, supply D
+unfoldable pub lpsysS2dFirst : Effect
+lpsysS2dFirst = store 30 (lpsysRowOf D .ldo)
+
+unfoldable pub lpsysS2dSecond : Effect
+lpsysS2dSecond = store 31 (lpsysRowOf D .ulpmcr) ▸ store 28 0

@@ -1,0 +1,67 @@
+-- `fit::rail::ldo` meets its contract, mode by mode. Assumes nothing.
+use mathlib.Core.Path.{ap, sym, _∙_}
+use Rattle.dvfs.specs.declared.hpsys.HpsysDvfsMode.{HpsysDvfsMode}
+use Rattle.dvfs.specs.declared.hpsys.HpsysDvfsConfig.{HpsysDvfsConfig}
+use Rattle.dvfs.specs.Hpsys.{rowOf}
+use Rattle.dvfs_hpsys.specs.volts.{vrefOf}
+use Rattle.fit.specs.rail.{ldoOf}
+use borrow.Author.Needs.{needs}
+use Rattle.fit.proofs.rail.ldo.Statement.{statement}
+use Rattle.fit.proofs.rail.ldo.Tie as tie
+
+get-config-requires : tie.Need-get-config-requires
+get-config-requires c κs = search needs
+
+enum-told : tie.Need-enum-told
+enum-told c = search needs
+
+vref-requires : tie.Need-vref-requires
+vref-requires c κs = search needs
+
+enum-told-2 : tie.Need-enum-told-2
+enum-told-2 c = search needs
+
+vref-requires-2 : tie.Need-vref-requires-2
+vref-requires-2 c κs = search needs
+
+enum-told-3 : tie.Need-enum-told-3
+enum-told-3 c = search needs
+
+cast-result : tie.Need-cast-result
+cast-result c = search needs
+
+enum-told-4 : tie.Need-enum-told-4
+enum-told-4 c = search needs
+
+cast-result-2 : tie.Need-cast-result-2
+cast-result-2 c = search needs
+
+returns : tie.Need-returns
+returns c = c .vref .ensures ∙ (ap vrefOf (c .before .enum-told .given .1) ∙ sym (ap ldoOf (c .before .enum-told .given .1)))
+
+returns-2 : tie.Need-returns-2
+returns-2 c = c .vref2 .ensures ∙ (ap vrefOf (c .before .enum-told2 .given .1) ∙ sym (ap ldoOf (c .before .enum-told2 .given .1)))
+
+returns-3 : tie.Need-returns-3
+returns-3 c = ap (λ (row : HpsysDvfsConfig). row .ldo) (c .before .before .before .get-config .ensures) ∙ (ap (λ (m : HpsysDvfsMode). rowOf m .ldo) (c .before .enum-told3 .given .1) ∙ sym (ap ldoOf (c .before .enum-told3 .given .1)))
+
+returns-4 : tie.Need-returns-4
+returns-4 c = ap (λ (row : HpsysDvfsConfig). row .ldo) (c .before .before .before .get-config .ensures) ∙ (ap (λ (m : HpsysDvfsMode). rowOf m .ldo) (c .before .enum-told4 .given .1) ∙ sym (ap ldoOf (c .before .enum-told4 .given .1)))
+
+pub ldo-spec : {M : Type 1} → statement M
+ldo-spec =
+    tie.close
+    (tie.spec
+    get-config-requires
+    enum-told
+    vref-requires
+    enum-told-2
+    vref-requires-2
+    enum-told-3
+    cast-result
+    enum-told-4
+    cast-result-2
+    returns
+    returns-2
+    returns-3
+    returns-4)

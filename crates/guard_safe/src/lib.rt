@@ -1,1 +1,0 @@
-// Every moment of a guarded change from a fit head is fit: proofs/Change.antt.

@@ -1,0 +1,26 @@
+-- `guard_steps::peak::peak` meets its contract: the higher of two, twice. Assumes nothing.
+use Rattle.guard_steps.specs.peak.{peakOf}
+use borrow.Author.Needs.{needs}
+use Rattle.guard_steps.proofs.peak.peak.Statement.{statement}
+use Rattle.guard_steps.proofs.peak.peak.Tie as tie
+
+mode-at-requires : tie.Need-mode-at-requires
+mode-at-requires c κs = search needs
+
+highest-requires : tie.Need-highest-requires
+highest-requires c κs = search needs
+
+mode-at-requires-2 : tie.Need-mode-at-requires-2
+mode-at-requires-2 c κs = search needs
+
+highest-requires-2 : tie.Need-highest-requires-2
+highest-requires-2 c κs = search needs
+
+returns : tie.Need-returns
+unfolding peakOf
+returns c = simp (c .highest2 .ensures, c .before .mode-at2 .ensures, c .before .before .highest .ensures, c .before .before .before .mode-at .ensures)
+
+pub peak-spec : {M : Type 1} → statement M
+peak-spec =
+    tie.close
+    (tie.spec mode-at-requires highest-requires mode-at-requires-2 highest-requires-2 returns)

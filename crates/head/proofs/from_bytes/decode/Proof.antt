@@ -1,0 +1,45 @@
+-- `head::from_bytes::decode` meets its contract: a refused record gives `blank`, and any other passed the tests. Assumes nothing.
+use mathlib.Core.Path.{_≡_, sym, _∙_}
+use borrow.Author.Tests.{eq-eqb, ne-eqb}
+use Rattle.head.specs.from_bytes.Record.{headRefusal}
+use Rattle.head.proofs.from_bytes.Passed.{passed}
+use Rattle.head.proofs.from_bytes.Decoding.{decode-encodable}
+use borrow.Author.Needs.{needs}
+use Rattle.head.proofs.from_bytes.decode.Statement.{statement}
+use Rattle.head.proofs.from_bytes.decode.Tie as tie
+
+refusal-requires : tie.Need-refusal-requires
+refusal-requires c κs = search needs
+
+blank-head-requires : tie.Need-blank-head-requires
+blank-head-requires c κs = search needs
+
+returns : tie.Need-returns
+returns c =
+    let b = c .before .before .before .before .args .buffer .now in
+    let refused : headRefusal b ≡ 0 → ⊥ = λ e. c .before .if1 .taken (c .before .before .refusal .ensures ∙ e) in
+    record {
+      refusal = c .before .before .refusal .ensures;
+      head = rw (ne-eqb (headRefusal b) 0 refused) (c .blank-head .ensures);
+      encodable = λ e. absurd (refused e);
+    }
+
+read-requires : tie.Need-read-requires
+read-requires c κs =
+    let b = c .before .before .before .args .buffer .now in
+    let p = passed b (sym (c .before .refusal .ensures) ∙ c .if1 .left) in
+    (p .length, p .count)
+
+returns-2 : tie.Need-returns-2
+returns-2 c =
+    let b = c .before .before .before .before .args .buffer .now in
+    let e : headRefusal b ≡ 0 = sym (c .before .before .refusal .ensures) ∙ c .before .if1 .left in
+    record {
+      refusal = sym e;
+      head = rw (eq-eqb (headRefusal b) 0 e) (c .read .ensures);
+      encodable = λ e. rw (c .read .ensures) (decode-encodable b (λ i. c .before .before .before .shared-slice-known .given i .fits) e);
+    }
+
+pub decode-spec : {M : Type 1} → statement M
+decode-spec =
+    tie.close (tie.spec refusal-requires blank-head-requires returns read-requires returns-2)

@@ -1,0 +1,94 @@
+-- Heads that hold other tasks: what they hold, and that they still have a record. Assumes nothing.
+use Prim.Native.Nat.{ℕ, zero, suc, _+_, _-_, _≤_, _<_}
+use mathlib.Core.Path.{_≡_, refl, ap, sym, _∙_}
+use mathlib.Core.Bool.{true}
+use mathlib.Core.List.{List, [], _∷_, _++_, append-assoc}
+use native.Mathlib.Omega.{arith}
+use native.Mathlib.Numerals.{add-one}
+use lib.ListN.{length, getD, take, drop, set, replicate, length-append, length-drop, length-replicate, take-append-drop, replicate-append-replicate, List·getD-append}
+use lib.Seq.{length-take-le, take-append-le, drop-append-le, drop-at}
+use Rattle.record.proofs.Items.{fill}
+use Rattle.task.specs.declared.Task.{Task}
+use Rattle.task.specs.Task.{noTask, allOk, hasId, distinct, InBytes}
+use Rattle.task.specs.bytes.{placed}
+use Rattle.task.proofs.bytes.Places.{placed-first}
+use Rattle.head.specs.declared.Head.{Head}
+use Rattle.head.specs.Head.{booked}
+use Rattle.head.specs.Encodable.{Encodable}
+use Rattle.head.specs.tasks.{holding, withTask, withoutTask, placeOf, movedUp}
+use Rattle.head.proofs.tasks.Places.{Placed, place-of}
+
+-- the tasks booked are as many as counted, and the other places are empty
+module _ (h : Head) (ok : Encodable h) where
+  pub booked-length : length (booked h) ≡ h .count
+  booked-length = length-take-le (h .count) (h .tasks) (omega (arith, ok .places, ok .room))
+
+  pub tasks-placed : h .tasks ≡ placed (booked h) (length (booked h))
+  tasks-placed = rw booked-length (sym (rw (ok .rest) at (take-append-drop (h .count) (h .tasks))))
+
+-- one more at the end
+pub placed-more : (ts : List Task) (t : Task) → length ts < 16 → set (placed ts (length ts)) (length ts) t ≡ placed (ts ++ (t ∷ [])) (length (ts ++ (t ∷ [])))
+placed-more ts t h =
+    let n : length (ts ++ (t ∷ [])) ≡ suc (length ts) = length-append ts (t ∷ []) ∙ add-one (length ts) in
+    rw n (fill ts 16 (length ts) noTask t refl h)
+
+-- one less
+less-length : (ts : List Task) (at : ℕ) → at < length ts → length (take at ts ++ drop (suc at) ts) ≡ length ts - 1
+less-length ts at l = length-append (take at ts) (drop (suc at) ts) ∙ rw (length-take-le at ts (omega (arith, l)), length-drop (suc at) ts) (omega (arith, l))
+
+pub placed-less : (ts : List Task) (at : ℕ) → at < length ts → length ts ≤ 16 →
+    movedUp at (placed ts (length ts)) ≡ placed (take at ts ++ drop (suc at) ts) (length (take at ts ++ drop (suc at) ts))
+placed-less ts at l h =
+    let R : List Task = replicate (16 - length ts) noTask in
+    let one : List Task = noTask ∷ [] in
+    let count : 16 - length ts + 1 ≡ 16 - (length ts - 1) = omega (arith, l, h) in
+    let more : R ++ one ≡ replicate (16 - (length ts - 1)) noTask =
+    replicate-append-replicate (16 - length ts) 1 noTask ∙ ap (λ (k : ℕ). replicate k noTask) count in
+    rw (take-append-le at ts R (omega (arith, l)), drop-append-le (suc at) ts R (omega (arith, l)), less-length ts at l, ← more) (simp append-assoc)
+
+-- the same of a head's places, and of its count
+module _ (h : Head) (ok : Encodable h) where
+  module _ (t : Task) where
+    pub more-places : h .count < 16 → set (h .tasks) (h .count) t ≡ withTask t h .tasks
+    more-places l =
+        ap (λ (ts : List Task). set ts (h .count) t) (tasks-placed h ok)
+        ∙ (ap (λ (n : ℕ). set (placed (booked h) (length (booked h))) n t) (sym (booked-length h ok)) ∙ placed-more (booked h) t (omega (arith, l, booked-length h ok)))
+
+    pub more-count : h .count + 1 ≡ withTask t h .count
+    more-count = sym (length-append (booked h) (t ∷ []) ∙ ap (λ (n : ℕ). n + 1) (booked-length h ok))
+
+  module _ (id : ℕ) (has : hasId id (booked h) ≡ true) where
+    p : Placed id (booked h)
+    p = place-of id (booked h) has
+
+    pub less-within : placeOf id (booked h) < h .count
+    less-within = omega (arith, p .within, booked-length h ok)
+
+    pub less-places : movedUp (placeOf id (booked h)) (h .tasks) ≡ withoutTask id h .tasks
+    less-places =
+        ap (movedUp (placeOf id (booked h))) (tasks-placed h ok)
+        ∙ (placed-less (booked h) (placeOf id (booked h)) (p .within) (omega (arith, booked-length h ok, ok .room))
+        ∙ ap (λ (ts : List Task). placed ts (length ts)) (sym (p .apart)))
+
+    pub less-count : h .count - 1 ≡ withoutTask id h .count
+    less-count = sym (ap length (p .apart) ∙ (less-length (booked h) (placeOf id (booked h)) (p .within) ∙ ap (λ (n : ℕ). n - 1) (booked-length h ok)))
+
+-- a head that holds tasks: it has booked just these, and it has a record
+module _ (ts : List Task) (h : Head) where
+  pub booked-holding : booked (holding ts h) ≡ ts
+  booked-holding = placed-first ts (length ts) refl
+
+  pub holding-encodable : Encodable h → length ts ≤ 16 → allOk ts ≡ true → distinct ts ≡ true → ((k : ℕ) → k < length ts → InBytes (getD ts k noTask)) → Encodable (holding ts h)
+  holding-encodable ok few each apart bytes =
+      record {
+        words = ok .words;
+        codes = ok .codes;
+        boot = ok .boot;
+        wake = ok .wake;
+        places = length-append ts (replicate (16 - length ts) noTask) ∙ rw length-replicate (omega (arith, few));
+        room = few;
+        each = rw booked-holding each;
+        apart = rw booked-holding apart;
+        inBytes = λ k l. rw (List·getD-append ts (replicate (16 - length ts) noTask) noTask k l) (bytes k l);
+        rest = drop-at ts (replicate (16 - length ts) noTask) (length ts) refl;
+      }

@@ -1,0 +1,46 @@
+-- The booked tasks of a head, with one more and with one less. Assumes nothing.
+use Prim.Native.Nat.{ℕ, suc}
+use mathlib.Core.Bool.{cond}
+use mathlib.Core.List.{List, [], _∷_, _++_}
+use lib.Dec.{eqb}
+use lib.ListN.{length, take, drop}
+use Rattle.task.specs.declared.Task.{Task}
+use Rattle.task.specs.Task.{noTask}
+use Rattle.task.specs.bytes.{placed}
+use Rattle.head.specs.declared.Head.{Head}
+use Rattle.head.specs.Head.{booked}
+
+-- a head with the tasks `ts` booked, in that order; registers and flags as they were
+abbrev pub holding : List Task → Head → Head
+holding ts h =
+    record {
+      regs = h .regs;
+      «hxt48_ready» = h .«hxt48_ready»;
+      «hrc48_ready» = h .«hrc48_ready»;
+      «lpsys_hxt48_ready» = h .«lpsys_hxt48_ready»;
+      «boot_mode» = h .«boot_mode»;
+      «wake_count» = h .«wake_count»;
+      tasks = placed ts (length ts);
+      count = length ts;
+    }
+
+-- "A booked task goes last"
+abbrev pub withTask : Task → Head → Head
+withTask t h = holding (booked h ++ (t ∷ [])) h
+
+-- "a release moves the later ones up": the tasks without the one of that id
+unfoldable pub without : ℕ → List Task → List Task
+without id [] = []
+without id (t ∷ ts) = cond (eqb (t .id) id) ts (t ∷ without id ts)
+
+abbrev pub withoutTask : ℕ → Head → Head
+withoutTask id h = holding (without id (booked h)) h
+
+-- the place of the first task with the id, the number of tasks where none has it
+unfoldable pub placeOf : ℕ → List Task → ℕ
+placeOf id [] = 0
+placeOf id (t ∷ ts) = cond (eqb (t .id) id) 0 (suc (placeOf id ts))
+
+-- places with the one at `at` taken out, the later ones moved up and the last one empty
+abbrev pub movedUp : ℕ → List Task → List Task
+movedUp at ts = take at ts ++ (drop (suc at) ts ++ (noTask ∷ []))

@@ -1,0 +1,31 @@
+-- `init_rest::flash::flash_back` meets its contract: each select is set back by itself. Assumes nothing.
+use mathlib.Core.Path.{refl}
+use Rattle.init_rest.specs.flash.{flashBack}
+use Rattle.init_rest.proofs.flash.Fits.{flash-fits}
+use borrow.Author.Needs.{needs}
+use Rattle.init_rest.proofs.flash.flash_back.Statement.{statement}
+use Rattle.init_rest.proofs.flash.flash_back.Tie as tie
+
+b-requires : tie.Need-b-requires
+b-requires c κs = search needs
+
+back-to-requires : tie.Need-back-to-requires
+back-to-requires c κs = search needs
+
+c-requires : tie.Need-c-requires
+c-requires c κs = search needs
+
+back-to-requires-2 : tie.Need-back-to-requires-2
+back-to-requires-2 c κs = search needs
+
+word-requires : tie.Need-word-requires
+word-requires c κs = search needs
+
+returns : tie.Need-returns
+unfolding flashBack
+returns c = (simp (c .word .ensures, c .before .before .before .back-to .ensures .0, c .before .back-to2 .ensures .0, c .before .before .before .before .b .ensures, c .before .before .c .ensures), rw (c .word .ensures) (flash-fits _ _ (c .before .before .before .back-to .ensures .1) (c .before .back-to2 .ensures .1)))
+
+pub flash-back-spec : {M : Type 1} → statement M
+flash-back-spec =
+    tie.close
+    (tie.spec b-requires back-to-requires c-requires back-to-requires-2 word-requires returns)

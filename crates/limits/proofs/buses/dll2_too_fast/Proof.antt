@@ -1,0 +1,20 @@
+-- `limits::buses::dll2_too_fast` meets its contract. Assumes nothing.
+use borrow.Author.Tests.{not-true, not-false}
+use Rattle.limits.specs.Limits.{dll2TooFast}
+use borrow.Author.Needs.{needs}
+use Rattle.limits.proofs.buses.dll2_too_fast.Statement.{statement}
+use Rattle.limits.proofs.buses.dll2_too_fast.Tie as tie
+
+is-fast-requires : tie.Need-is-fast-requires
+is-fast-requires c κs = search needs
+
+returns : tie.Need-returns
+unfolding dll2TooFast
+returns c = simp (← c .before .is-fast .ensures, not-true (c .before .is-fast .result) (c .if1 .taken))
+
+returns-2 : tie.Need-returns-2
+unfolding dll2TooFast
+returns-2 c = simp (← c .before .before .is-fast .ensures, not-false (c .before .before .is-fast .result) (c .before .if1 .left))
+
+pub dll2-too-fast-spec : {M : Type 1} → statement M
+dll2-too-fast-spec = tie.close (tie.spec is-fast-requires returns returns-2)

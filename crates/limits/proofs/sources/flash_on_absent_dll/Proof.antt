@@ -1,0 +1,28 @@
+-- `limits::sources::flash_on_absent_dll` meets its contract. Assumes nothing.
+use borrow.Author.Tests.{eq-eqb, ne-eqb, not-true, not-false}
+use Rattle.limits.specs.sources.{flashOnAbsentDll}
+use borrow.Author.Needs.{needs}
+use Rattle.limits.proofs.sources.flash_on_absent_dll.Statement.{statement}
+use Rattle.limits.proofs.sources.flash_on_absent_dll.Tie as tie
+
+is-absent-requires : tie.Need-is-absent-requires
+is-absent-requires c κs = search needs
+
+returns : tie.Need-returns
+unfolding flashOnAbsentDll
+returns c = simp (eq-eqb _ _ (c .before .if1 .taken), c .is-absent .ensures)
+
+is-absent-requires-2 : tie.Need-is-absent-requires-2
+is-absent-requires-2 c κs = search needs
+
+returns-2 : tie.Need-returns-2
+unfolding flashOnAbsentDll
+returns-2 c = simp (ne-eqb _ _ (c .before .before .if1 .left), eq-eqb _ _ (c .before .if2 .taken), c .is-absent2 .ensures)
+
+returns-3 : tie.Need-returns-3
+unfolding flashOnAbsentDll
+returns-3 c = simp (ne-eqb _ _ (c .before .if1 .left), ne-eqb _ _ (c .if2 .left))
+
+pub flash-on-absent-dll-spec : {M : Type 1} → statement M
+flash-on-absent-dll-spec =
+    tie.close (tie.spec is-absent-requires returns is-absent-requires-2 returns-2 returns-3)

@@ -1,0 +1,54 @@
+-- What the load check answers, case by case. Assumes nothing.
+use Prim.Native.Nat.{ℕ, _/_, _%_}
+use mathlib.Core.Path.{_≡_}
+use mathlib.Core.Bool.{true, false}
+use mathlib.Core.List.{List}
+use lib.Dec.{eqb, ltb}
+use lib.ListN.{length, take}
+use borrow.Author.Tests.{ne-eqb}
+use Rattle.record.specs.Refusals.{firstOf}
+use Rattle.record.specs.Items.{items}
+use Rattle.record.proofs.Items.{items-length}
+use Rattle.task.specs.Task.{allOk, distinct}
+use Rattle.task.specs.bytes.{taskIn, placed}
+use Rattle.task.proofs.bytes.Places.{placed-first}
+use Rattle.load.specs.Load.{loadOf}
+use Rattle.load.specs.check.{listed, checkRefusal, loadCheck}
+
+module _ (b : List ℕ) where
+  -- a refusal gives no load, and no refusal the load of the list
+  pub refuses : (n : ℕ) → (n ≡ 0 → ⊥) → checkRefusal b ≡ n → record { refusal = n; load = 0 } ≡ loadCheck b
+  unfolding loadCheck
+  refuses n z e = rw (e, ne-eqb n 0 z)
+
+  pub accepts : checkRefusal b ≡ 0 → record { refusal = 0; load = loadOf (listed b) } ≡ loadCheck b
+  unfolding loadCheck
+  accepts e = rw e
+
+  -- the tests, as far as they are passed
+  pub not-nine-each : eqb (length b % 9) 0 ≡ false → checkRefusal b ≡ 1
+  unfolding checkRefusal firstOf
+  not-nine-each p = rw p
+
+  module _ (p : eqb (length b % 9) 0 ≡ true) where
+    pub too-many : ltb 16 (length b / 9) ≡ true → checkRefusal b ≡ 41
+    unfolding checkRefusal firstOf
+    too-many q = rw (p, q)
+
+    module _ (q : ltb 16 (length b / 9) ≡ false) where
+      pub one-wrong : allOk (listed b) ≡ false → checkRefusal b ≡ 16
+      unfolding checkRefusal firstOf
+      one-wrong r = rw (p, q, r)
+
+      pub two-alike : allOk (listed b) ≡ true → distinct (listed b) ≡ false → checkRefusal b ≡ 40
+      unfolding checkRefusal firstOf
+      two-alike r s = rw (p, q, r, s)
+
+      pub none : allOk (listed b) ≡ true → distinct (listed b) ≡ true → checkRefusal b ≡ 0
+      unfolding checkRefusal firstOf
+      none r s = rw (p, q, r, s)
+
+  -- the first places of those read are the list
+  pub first-listed : take (length b / 9) (placed (items taskIn 9 (length b / 9) b) (length b / 9)) ≡ listed b
+  unfolding listed
+  first-listed = placed-first (items taskIn 9 (length b / 9) b) (length b / 9) (items-length taskIn 9 (length b / 9) b)

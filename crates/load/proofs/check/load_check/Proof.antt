@@ -1,0 +1,87 @@
+-- `load::check::load_check` meets its contract: each test that led to a return decides its part of `checkRefusal`.
+-- Assumes nothing.
+use Prim.Native.Nat.{_/_}
+use mathlib.Core.Path.{_≡_, ap, sym, _∙_}
+use mathlib.Core.Bool.{true, false}
+use native.Mathlib.Omega.{arith}
+use lib.ListN.{length, take}
+use borrow.Author.Needs.{needs}
+use borrow.Author.Tests.{eq-eqb, ne-eqb, lt-ltb, le-ltb, not-true, not-false}
+use Rattle.task.specs.Task.{allOk, distinct}
+use Rattle.load.specs.Load.{loadOf}
+use Rattle.load.specs.check.{listed}
+use Rattle.load.proofs.check.Cases.{refuses, accepts, not-nine-each, too-many, one-wrong, two-alike, none, first-listed}
+use Rattle.load.proofs.check.load_check.Statement.{statement}
+use Rattle.load.proofs.check.load_check.Tie as tie
+
+refused-requires : tie.Need-refused-requires
+refused-requires c κs = search needs
+
+returns : tie.Need-returns
+returns c = c .refused .ensures ∙ refuses _ 1 (λ z. omega arith) (not-nine-each _ (ne-eqb _ _ (c .before .if1 .taken)))
+
+refused-requires-2 : tie.Need-refused-requires-2
+refused-requires-2 c κs = search needs
+
+returns-2 : tie.Need-returns-2
+returns-2 c = c .refused2 .ensures ∙ refuses _ 41 (λ z. omega arith) (too-many _ (eq-eqb _ _ (c .before .before .if1 .left)) (lt-ltb _ _ (c .before .if2 .taken)))
+
+tasks-at-requires : tie.Need-tasks-at-requires
+tasks-at-requires c κs = search needs
+
+load-requires : tie.Need-load-requires
+load-requires c κs = search needs
+
+all-ok-requires : tie.Need-all-ok-requires
+all-ok-requires c κs = search needs
+
+refused-requires-3 : tie.Need-refused-requires-3
+refused-requires-3 c κs = search needs
+
+returns-3 : tie.Need-returns-3
+unfolding listed
+returns-3 c =
+    let b = c .before .before .before .before .before .before .before .before .args .bytes .now in
+    let fails : allOk (listed b) ≡ false = sym (c .before .before .all-ok .ensures) ∙ not-true _ (c .before .if3 .taken) in
+    c .refused3 .ensures ∙ refuses b 16 (λ z. omega arith) (one-wrong b (eq-eqb _ _ (c .before .before .before .before .before .before .if1 .left)) (le-ltb _ _ (c .before .before .before .before .before .if2 .left)) fails)
+
+distinct-requires : tie.Need-distinct-requires
+distinct-requires c κs = search needs
+
+refused-requires-4 : tie.Need-refused-requires-4
+refused-requires-4 c κs = search needs
+
+returns-4 : tie.Need-returns-4
+unfolding listed
+returns-4 c =
+    let b = c .before .before .before .before .before .before .before .before .before .before .args .bytes .now in
+    let holds : allOk (listed b) ≡ true = sym (c .before .before .before .before .all-ok .ensures) ∙ not-false _ (c .before .before .before .if3 .left) in
+    let fails : distinct (listed b) ≡ false = sym (c .before .before .distinct .ensures) ∙ not-true _ (c .before .if4 .taken) in
+    c .refused4 .ensures ∙ refuses b 40 (λ z. omega arith) (two-alike b (eq-eqb _ _ (c .before .before .before .before .before .before .before .before .if1 .left)) (le-ltb _ _ (c .before .before .before .before .before .before .before .if2 .left)) holds fails)
+
+returns-5 : tie.Need-returns-5
+unfolding listed
+returns-5 c =
+    let b = c .before .before .before .before .before .before .before .before .before .args .bytes .now in
+    let holds : allOk (listed b) ≡ true = sym (c .before .before .before .all-ok .ensures) ∙ not-false _ (c .before .before .if3 .left) in
+    let apart : distinct (listed b) ≡ true = sym (c .before .distinct .ensures) ∙ not-false _ (c .if4 .left) in
+    let load = c .before .before .before .before .load .ensures ∙ ap loadOf (ap (take (length b / 9)) (c .before .before .before .before .before .tasks-at .ensures) ∙ first-listed b) in
+    rw load (accepts b (none b (eq-eqb _ _ (c .before .before .before .before .before .before .before .if1 .left)) (le-ltb _ _ (c .before .before .before .before .before .before .if2 .left)) holds apart))
+
+pub load-check-spec : {M : Type 1} → statement M
+load-check-spec =
+    tie.close
+    (tie.spec
+    refused-requires
+    returns
+    refused-requires-2
+    returns-2
+    tasks-at-requires
+    load-requires
+    all-ok-requires
+    refused-requires-3
+    returns-3
+    distinct-requires
+    refused-requires-4
+    returns-4
+    returns-5)

@@ -1,0 +1,34 @@
+-- The load check. Assumes nothing.
+use Prim.Native.Nat.{ℕ, _+_, _/_, _%_}
+use mathlib.Core.Bool.{cond, not}
+use mathlib.Core.List.{List, [], _∷_}
+use lib.Dec.{eqb, ltb}
+use lib.ListN.{length}
+use Rattle.record.specs.Refusals.{refuse, firstOf}
+use Rattle.record.specs.Items.{items}
+use Rattle.task.specs.declared.Task.{Task}
+use Rattle.task.specs.Task.{allOk, distinct}
+use Rattle.task.specs.bytes.{taskIn}
+use Rattle.load.specs.Load.{loadOf}
+use Rattle.load.specs.declared.check.Checked.{Checked}
+
+-- "a list of task records lent by the caller": nine bytes each
+unfoldable pub listed : List ℕ → List Task
+listed b = items taskIn 9 (length b / 9) b
+
+-- "1 (not nine each), 41, 16, 40 in that order"
+unfoldable pub checkRefusal : List ℕ → ℕ
+checkRefusal b =
+    firstOf
+    (refuse 1 (not (eqb (length b % 9) 0)) ∷
+    refuse 41 (ltb 16 (length b / 9)) ∷
+    refuse 16 (not (allOk (listed b))) ∷
+    refuse 40 (not (distinct (listed b))) ∷ [])
+
+-- "The load check on such bytes answers the load, or" the refusal
+unfoldable pub loadCheck : List ℕ → Checked
+loadCheck b = cond (eqb (checkRefusal b) 0) (record { refusal = 0; load = loadOf (listed b) }) (record { refusal = checkRefusal b; load = 0 })
+
+-- "It gets a 64-bit number: .., the top bit set on a refusal of the load check."
+unfoldable pub wordOf : Checked → ℕ
+wordOf c = cond (eqb (c .refusal) 0) (c .load) (9223372036854775808 + c .refusal)

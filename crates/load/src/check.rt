@@ -1,0 +1,49 @@
+// The load check: the load of a list of tasks, lent as bytes.
+ghost use mathlib.Core.Path.{_≡_};
+ghost use Rattle.load.specs.check.{loadCheck, wordOf};
+
+// 0 and the load, or the refusal and 0.
+pub struct Checked {
+    pub refusal: u8,
+    pub load: u64,
+}
+
+fn refused(refusal: u8) -> Checked
+    ensures { λ r. ⌜ r ≡ record { refusal = refusal; load = 0 } ⌝ }
+{
+    Checked { refusal, load: 0 }
+}
+
+pub fn load_check(bytes: &[u8]) -> Checked
+    ensures { λ r. ⌜ r ≡ loadCheck (now (bytes .entry)) ⌝ }
+{
+    if bytes.len() % 9 != 0 {
+        return refused(1);
+    }
+    let count = bytes.len() / 9;
+    if 16 < count {
+        return refused(41);
+    }
+    // Added up before the tests, which the processor makes while it waits for the divisions.
+    let tasks = task::bytes::tasks_at(bytes, 0, count);
+    let load = crate::load(tasks, count);
+    if !task::list::all_ok(bytes, count) {
+        return refused(16);
+    }
+    if !task::list::distinct(bytes, count) {
+        return refused(40);
+    }
+    Checked { refusal: 0, load }
+}
+
+impl Checked {
+    // The load, or the refusal with the top bit set.
+    pub fn word(self) -> u64
+        ensures { λ r. ⌜ r ≡ wordOf self ⌝ }
+    {
+        if self.refusal != 0 {
+            return 9223372036854775808 + self.refusal as u64;
+        }
+        self.load
+    }
+}

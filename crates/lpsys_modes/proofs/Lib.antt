@@ -1,2 +1,0 @@
-pub mod Divider
-pub mod Modes

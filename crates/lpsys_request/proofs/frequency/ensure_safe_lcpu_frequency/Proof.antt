@@ -1,0 +1,99 @@
+-- `lpsys_request::frequency::ensure_safe_lcpu_frequency` meets its contract: the shared tests, 43, then the slowing. Assumes nothing.
+use mathlib.Core.List.{[], _∷_}
+use Rattle.record.proofs.Refusals.{only-test}
+use native.Mathlib.Omega.{arith}
+use mathlib.Core.Path.{_≡_, refl, sym, ap, _∙_}
+use Rattle.record.specs.Refusals.{firstOf}
+use Rattle.time.specs.declared.Reading.{Reading}
+use Rattle.time.specs.declared.Reading.the-variants.{At, Unreadable}
+use Rattle.clock_read.specs.lpsys.{lpsysHclkOf}
+use Rattle.call.proofs.Ending.{call-unadmitted, call-refused, call-ran, call-encodable, call-bytes, call-head}
+use Rattle.call.proofs.Admitting.{journal-room, started}
+use Rattle.lpsys_request.specs.frequency.{safeTests, safeFrequency}
+use borrow.Author.Needs.{needs}
+use Rattle.lpsys_request.proofs.frequency.ensure_safe_lcpu_frequency.Statement.{statement}
+use Rattle.lpsys_request.proofs.frequency.ensure_safe_lcpu_frequency.Tie as tie
+
+admit-requires : tie.Need-admit-requires
+admit-requires c κs = search needs
+
+refused-requires : tie.Need-refused-requires
+refused-requires c κs = search needs
+
+same-length : tie.Need-same-length
+same-length c = search needs
+
+same-length-2 : tie.Need-same-length-2
+same-length-2 c = search needs
+
+returns : tie.Need-returns
+unfolding safeFrequency
+returns c = call-unadmitted (c .before .before .before .admit .ensures) (safeTests (c .before .before .before .before .before .before .before .before .args .buffer .now)) _ _ _ _ (c .before .if1 .taken) (c .refused .ensures)
+
+get-lpsys-hclk-freq-requires : tie.Need-get-lpsys-hclk-freq-requires
+get-lpsys-hclk-freq-requires c κs = search needs
+
+enum-known-f : tie.Need-enum-known-f
+enum-known-f c = search needs
+
+enum-told : tie.Need-enum-told
+enum-told c = search needs
+
+refused-requires-2 : tie.Need-refused-requires-2
+refused-requires-2 c κs = search needs
+
+same-length-3 : tie.Need-same-length-3
+same-length-3 c = search needs
+
+same-length-4 : tie.Need-same-length-4
+same-length-4 c = search needs
+
+returns-2 : tie.Need-returns-2
+unfolding safeFrequency firstOf
+returns-2 c =
+    let none = ap lpsysHclkOf (sym (call-head (c .before .before .before .before .before .before .before .admit .ensures) (c .before .before .before .before .before .if1 .left))) ∙ (sym (c .before .before .before .get-lpsys-hclk-freq .ensures) ∙ c .before .enum-told .given .1) in
+    call-refused (c .before .before .before .before .before .before .before .admit .ensures) (safeTests (c .before .before .before .before .before .before .before .before .before .before .before .before .args .buffer .now)) 42 _ _ _ _ (c .before .before .before .before .before .if1 .left) (simp none) (c .refused2 .ensures)
+
+start-requires : tie.Need-start-requires
+start-requires c κs = search needs
+
+slow-down-requires : tie.Need-slow-down-requires
+slow-down-requires c κs = started 6 _ _ _ (c .before .start .ensures) (call-encodable (c .before .before .before .before .before .before .before .before .before .admit .ensures) (c .before .before .before .before .before .before .before .if1 .left)) (omega arith) (journal-room (c .before .before .before .before .before .before .before .before .before .before .before .before .before .before .args .buffer .now) (c .before .before .before .before .before .before .before .before .before .before .before .before .before .before .args .journal .now) (c .before .before .before .before .before .before .before .before .before .admit .ensures) (c .before .before .before .before .before .before .before .if1 .left))
+
+finish-requires : tie.Need-finish-requires
+finish-requires c κs = (c .before .before .before .slow-down .ensures .1 .encodable, call-bytes (c .before .before .before .before .before .before .before .before .before .before .before .before .before .admit .ensures) (c .before .before .before .before .before .before .before .before .before .before .before .if1 .left))
+
+same-length-5 : tie.Need-same-length-5
+same-length-5 c = search needs
+
+same-length-6 : tie.Need-same-length-6
+same-length-6 c = search needs
+
+returns-3 : tie.Need-returns-3
+unfolding safeFrequency
+returns-3 c =
+    let reads = ap lpsysHclkOf (sym (call-head (c .before .before .before .before .before .before .before .before .before .before .before .before .before .before .before .before .admit .ensures) (c .before .before .before .before .before .before .before .before .before .before .before .before .before .before .if1 .left))) ∙ (sym (c .before .before .before .before .before .before .before .before .before .before .before .before .get-lpsys-hclk-freq .ensures) ∙ c .before .before .before .before .before .before .before .before .before .before .f .given .1) in
+    simp reads (call-ran (c .before .before .before .before .before .before .before .before .before .before .before .before .before .before .before .before .admit .ensures) (0 ∷ []) _ _ _ _ _ _ _ _ (c .before .before .before .before .before .before .before .before .before .before .before .before .before .before .if1 .left) (only-test 0) (c .before .before .before .before .before .before .before .before .start .ensures) (c .before .before .before .before .before .before .slow-down .ensures .0) (c .before .before .finish .ensures))
+
+pub ensure-safe-lcpu-frequency-spec : {M : Type 1} → statement M
+ensure-safe-lcpu-frequency-spec =
+    tie.close
+    (tie.spec
+    admit-requires
+    refused-requires
+    same-length
+    same-length-2
+    returns
+    get-lpsys-hclk-freq-requires
+    enum-known-f
+    enum-told
+    refused-requires-2
+    same-length-3
+    same-length-4
+    returns-2
+    start-requires
+    slow-down-requires
+    finish-requires
+    same-length-5
+    same-length-6
+    returns-3)

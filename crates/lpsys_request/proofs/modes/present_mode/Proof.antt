@@ -1,0 +1,31 @@
+-- `lpsys_request::modes::present_mode` meets its contract. Assumes nothing.
+use Rattle.lpsys_request.specs.modes.{presentMode}
+use borrow.Author.Needs.{needs}
+use Rattle.lpsys_request.proofs.modes.present_mode.Statement.{statement}
+use Rattle.lpsys_request.proofs.modes.present_mode.Tie as tie
+
+get-lpsys-hclk-freq-requires : tie.Need-get-lpsys-hclk-freq-requires
+get-lpsys-hclk-freq-requires c κs = search needs
+
+unwrap-or-requires : tie.Need-unwrap-or-requires
+unwrap-or-requires c κs = search needs
+
+from-hertz-requires : tie.Need-from-hertz-requires
+from-hertz-requires c κs = search needs
+
+mode-or-requires : tie.Need-mode-or-requires
+mode-or-requires c κs = search needs
+
+returns : tie.Need-returns
+unfolding presentMode
+returns c = simp (c .mode-or .ensures, c .before .from-hertz .ensures, c .before .before .unwrap-or .ensures, c .before .before .before .get-lpsys-hclk-freq .ensures)
+
+pub present-mode-spec : {M : Type 1} → statement M
+present-mode-spec =
+    tie.close
+    (tie.spec
+    get-lpsys-hclk-freq-requires
+    unwrap-or-requires
+    from-hertz-requires
+    mode-or-requires
+    returns)

@@ -1,0 +1,11 @@
+-- `ensure_safe_lcpu_frequency` of rcc/clock_lpsys.rs, as an effect on a running call. Assumes nothing.
+use mathlib.Core.Bool.{cond}
+use lib.Dec.{ltb}
+use Rattle.time.specs.Frequency.{hzOr}
+use Rattle.clock_read.specs.lpsys.{lpsysHclkOf}
+use Rattle.journal.specs.Run.{Effect}
+use Rattle.lpsys_request.specs.Request.{request}
+
+-- a request of 24 MHz where LPSYS HCLK is above it
+unfoldable pub slowDown : Effect
+slowDown r = cond (ltb 24000000 (hzOr 0 (lpsysHclkOf (r .head)))) (request 24 r) r

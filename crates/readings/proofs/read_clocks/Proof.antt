@@ -1,0 +1,35 @@
+-- `readings::read_clocks` meets its contract: a head that is read is encodable, and a refused one leaves the list as it was. Assumes nothing.
+use mathlib.Core.Path.{sym, _∙_}
+use borrow.Author.Tests.{eq-eqb, ne-eqb}
+use Rattle.head.proofs.from_bytes.Answers.{not-refused, read-head, read-encodable}
+use borrow.Author.Needs.{needs}
+use Rattle.readings.proofs.read_clocks.Statement.{statement}
+use Rattle.readings.proofs.read_clocks.Tie as tie
+
+decode-requires : tie.Need-decode-requires
+decode-requires c κs = search needs
+
+returns : tie.Need-returns
+returns c = (c .before .before .decode .ensures .refusal, simp (← c .before .before .decode .ensures .refusal, ne-eqb _ _ (c .if1 .taken)))
+
+read-hpsys-clocks-from-hw-requires : tie.Need-read-hpsys-clocks-from-hw-requires
+read-hpsys-clocks-from-hw-requires c κs = read-encodable (c .before .before .before .decode .ensures) (c .before .if1 .left)
+
+numbers-requires : tie.Need-numbers-requires
+numbers-requires c κs = search needs
+
+returns-2 : tie.Need-returns-2
+returns-2 c = (
+  sym (not-refused (c .before .before .before .before .before .decode .ensures) (c .before .before .before .if1 .left)),
+  simp (eq-eqb _ _ (not-refused (c .before .before .before .before .before .decode .ensures) (c .before .before .before .if1 .left)), c .numbers .ensures, c .before .read-hpsys-clocks-from-hw .ensures, read-head (c .before .before .before .before .before .decode .ensures) (c .before .before .before .if1 .left)),
+)
+
+pub read-clocks-spec : {M : Type 1} → statement M
+read-clocks-spec =
+    tie.close
+    (tie.spec
+    decode-requires
+    returns
+    read-hpsys-clocks-from-hw-requires
+    numbers-requires
+    returns-2)

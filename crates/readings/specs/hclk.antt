@@ -1,0 +1,12 @@
+-- LPSYS HCLK of a head's bytes. Assumes nothing.
+use Prim.Native.Nat.{ℕ}
+use mathlib.Core.Bool.{cond}
+use mathlib.Core.List.{List}
+use lib.Dec.{eqb}
+use Rattle.clock.specs.clocks.{maybe}
+use Rattle.head.specs.from_bytes.Record.{headRefusal, headOf}
+use Rattle.clock_read.specs.lpsys.{lpsysHclkOf}
+
+-- "LPSYS HCLK in Hz", 0 where none reads or the head is refused
+unfoldable pub hclkIn : List ℕ → ℕ
+hclkIn b = cond (eqb (headRefusal b) 0) (maybe (lpsysHclkOf (headOf b))) 0

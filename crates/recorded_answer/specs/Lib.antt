@@ -1,0 +1,4 @@
+pub mod Answer
+pub mod given
+pub mod left
+pub mod loads

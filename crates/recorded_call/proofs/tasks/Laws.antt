@@ -1,0 +1,15 @@
+-- What a booking and a release leave: their entries, which are none, lie in no journal. Assumes nothing.
+use Prim.Native.Nat.{ℕ, _≤_}
+use mathlib.Core.List.{List, []}
+use lib.ListN.{length}
+use Rattle.call.proofs.Entries.{performed-within}
+use Rattle.booking.specs.Booking.{book}
+use Rattle.booking.specs.release.{release}
+use Rattle.recorded_call.specs.declared.tasks.Call.{Call}
+use Rattle.recorded_call.specs.declared.tasks.Call.the-variants.{Book, Release}
+use Rattle.recorded_call.specs.tasks.{resultOf}
+
+pub result-within : (call : Call) (x b : List ℕ) → resultOf call x b .entries ≤ length (resultOf call x b .journal)
+unfolding book release
+result-within Book x b = performed-within _ _ _ b []
+result-within Release x b = performed-within _ _ _ b []

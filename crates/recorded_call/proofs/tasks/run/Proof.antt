@@ -1,0 +1,55 @@
+-- `recorded_call::tasks::run` meets its contract: each arm is one call, on its bytes of the argument. Assumes nothing.
+use Rattle.task.specs.bytes.{taskIn}
+use borrow.Author.Needs.{needs}
+use Rattle.recorded_call.proofs.tasks.run.Statement.{statement}
+use Rattle.recorded_call.proofs.tasks.run.Tie as tie
+
+byte-at-requires : tie.Need-byte-at-requires
+byte-at-requires c κs = search needs
+
+four-at-requires : tie.Need-four-at-requires
+four-at-requires c κs = search needs
+
+four-at-requires-2 : tie.Need-four-at-requires-2
+four-at-requires-2 c κs = search needs
+
+enum-told : tie.Need-enum-told
+enum-told c = search needs
+
+book-requires : tie.Need-book-requires
+book-requires c κs = search needs
+
+enum-told-2 : tie.Need-enum-told-2
+enum-told-2 c = search needs
+
+release-requires : tie.Need-release-requires
+release-requires c κs = search needs
+
+same-length : tie.Need-same-length
+same-length c = search needs
+
+returns : tie.Need-returns
+unfolding taskIn
+returns c = rw ((c .before .before .before .before .enum-told .given .1), ← (c .before .before .before .before .before .before .before .before .byte-at .ensures), ← (c .before .before .before .before .before .before .before .four-at .ensures), ← (c .before .before .before .before .before .before .four-at2 .ensures)) (c .before .before .book .ensures)
+
+same-length-2 : tie.Need-same-length-2
+same-length-2 c = search needs
+
+returns-2 : tie.Need-returns-2
+returns-2 c = rw ((c .before .before .before .before .enum-told2 .given .1), ← (c .before .before .before .before .before .before .before .before .byte-at .ensures)) (c .before .before .release .ensures)
+
+pub run-spec : {M : Type 1} → statement M
+run-spec =
+    tie.close
+    (tie.spec
+    byte-at-requires
+    four-at-requires
+    four-at-requires-2
+    enum-told
+    book-requires
+    enum-told-2
+    release-requires
+    same-length
+    returns
+    same-length-2
+    returns-2)

@@ -1,0 +1,2 @@
+pub mod lpsys
+pub mod tasks

@@ -1,3 +1,0 @@
-pub mod Coded
-pub mod Still
-pub mod Requests

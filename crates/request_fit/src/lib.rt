@@ -1,1 +1,0 @@
-// Every moment of an LPSYS request from a fit head is fit: theorems about the definitions, no code.

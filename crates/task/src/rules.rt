@@ -1,0 +1,39 @@
+// The rules of tasks.
+ghost use mathlib.Core.Path.{_≡_};
+ghost use Prim.Native.Nat.{_≤_};
+ghost use lib.ListN.{take};
+ghost use Rattle.task.specs.Task.{taskOk, hasId};
+use crate::Task;
+
+// A task that a booking would not refuse by 16.
+pub fn ok(task: Task) -> bool
+    ensures { λ r. ⌜ r ≡ taskOk task ⌝ }
+{
+    if task.id == 0 {
+        return false;
+    }
+    if task.cycles == 0 {
+        return false;
+    }
+    if task.period == 0 {
+        return false;
+    }
+    task.period <= 10000000
+}
+
+// Whether one of the first `count` tasks has the id.
+pub fn has_id(tasks: [Task; 16], count: u8, id: u8) -> bool
+    requires { ⌜ count ≤ 16 ⌝ }
+    ensures { λ r. ⌜ r ≡ hasId id (take count tasks) ⌝ }
+{
+    let end = count as usize;
+    let mut i = 0;
+    while i < end {
+        let task = tasks[i];
+        if task.id == id {
+            return true;
+        }
+        i += 1;
+    }
+    false
+}

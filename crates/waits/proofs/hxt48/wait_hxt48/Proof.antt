@@ -1,0 +1,52 @@
+-- `waits::hxt48::wait_hxt48` meets its contract: the flag picks the case of `waitHxt48`. Assumes nothing.
+use native.Mathlib.Omega.{arith}
+use mathlib.Core.Path.{_≡_, refl, ap, sym, _∙_}
+use mathlib.Core.Bool.{true, false}
+use Rattle.journal.specs.declared.Machine.{Machine}
+use Rattle.journal.specs.Run.{Run, waitHxt48}
+use Rattle.journal.specs.Machine.{machineOf}
+use Rattle.journal.proofs.Reached.{ran-as, ran-then}
+use borrow.Author.Needs.{needs}
+use Rattle.waits.proofs.hxt48.wait_hxt48.Statement.{statement}
+use Rattle.waits.proofs.hxt48.wait_hxt48.Tie as tie
+
+wait-none-requires : tie.Need-wait-none-requires
+wait-none-requires c κs = search needs
+
+same-length : tie.Need-same-length
+same-length c = search needs
+
+returns : tie.Need-returns
+unfolding waitHxt48
+returns c =
+    let flag : (r : Run) → c .before .before .before .before .before .before .before .before .args .m ≡ machineOf r → r .head .«hxt48_ready» ≡ true = λ r q. ap (λ (w : Machine). w .head .«hxt48_ready») (sym q) ∙ c .before .before .before .before .if1 .taken in
+    (ran-as (λ r q. simp (flag r q)) (c .before .before .wait-none .ensures .0), (c .before .before .wait-none .ensures .1 .0, search needs))
+
+wait-for-requires : tie.Need-wait-for-requires
+wait-for-requires c κs = search needs
+
+set-hxt48-requires : tie.Need-set-hxt48-requires
+set-hxt48-requires c κs = search needs
+
+same-length-2 : tie.Need-same-length-2
+same-length-2 c = search needs
+
+returns-2 : tie.Need-returns-2
+unfolding waitHxt48
+returns-2 c =
+    let flag : (r : Run) → c .before .before .before .before .before .before .before .before .before .args .m ≡ machineOf r → r .head .«hxt48_ready» ≡ false = λ r q. ap (λ (w : Machine). w .head .«hxt48_ready») (sym q) ∙ c .before .before .before .before .before .if1 .left in (
+      ran-as (λ r q. simp (flag r q)) (ran-then (c .before .before .before .wait-for .ensures .0) (c .set-hxt48 .ensures .0 _)),
+      (record { room = omega (arith, c .before .before .before .wait-for .ensures .1 .0 .room, c .set-hxt48 .ensures .1 .0 .room); encodable = c .set-hxt48 .ensures .1 .0 .encodable }, omega arith),
+    )
+
+pub wait-hxt48-spec : {M : Type 1} → statement M
+wait-hxt48-spec =
+    tie.close
+    (tie.spec
+    wait-none-requires
+    same-length
+    returns
+    wait-for-requires
+    set-hxt48-requires
+    same-length-2
+    returns-2)
