@@ -55,7 +55,7 @@ help:
 lib: $(LIBRARY)
 
 # rt check proves several crates at a time, rt staticlib one after the other.
-$(LIBRARY): $(SOURCES) | build/long-slices
+$(LIBRARY): $(SOURCES)
 	test -d target/rlib/rikkovan.rlib || $(RT) check rikkovan
 	$(RT) staticlib rikkovan
 
@@ -63,7 +63,7 @@ build/daemon: examples/daemon.c include/rikkovan.h $(LIBRARY)
 	@mkdir -p build
 	$(CC) -std=c99 $(STRICT) $(CFLAGS) -Iinclude -o $@ examples/daemon.c $(LIBRARY)
 
-$(PROGRAMS): target/bin/%: $(SOURCES) | build/long-slices
+$(PROGRAMS): target/bin/%: $(SOURCES)
 	$(RT) check $*
 
 # Some of the files are refused on purpose, and the daemon's status is then 1.
@@ -73,10 +73,6 @@ run: build/daemon target/bin/moments
 	@target/bin/moments examples/heads/d48.head examples/plans/default.plan examples/heads/second-poll.answers
 	@echo 'a head at 240 MHz with tasks that are 110 percent of a slower plan:'
 	@target/bin/moments examples/heads/s240-tasks.head examples/plans/dll1-144.plan
-
-build/long-slices: tools/long-slices.c
-	@mkdir -p build
-	@$(CC) -std=c99 $(STRICT) $(CFLAGS) -o $@ $<
 
 test:
 	@tools/test.sh

@@ -27,5 +27,4 @@ export RT_JOBS=${RT_JOBS:-$(jobs)}
 if [ -z "${TMPDIR:-}" ] && has_memory_folder; then
     export TMPDIR=/dev/shm
 fi
-[ -x build/long-slices ] || make --no-print-directory build/long-slices
-exec build/long-slices rt "$@"
+exec rt "$@"
