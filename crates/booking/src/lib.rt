@@ -1,4 +1,4 @@
-// A booking: one task more on a head, within its clock.
+// Booking a task on a head, within its clock; `release` takes one out.
 pub mod release;
 pub mod tests;
 

@@ -1,4 +1,4 @@
-// `calibrate_hrc48` of rcc/clock_config.rs on lent bytes; `clock_config` passes it on.
+// rcc/clock_config.rs, `calibrate_hrc48` on lent bytes.
 ghost use Rattle.call.specs.Call.{Answers};
 ghost use Rattle.clock_config.specs.calibrate.{calibration};
 use call::Answer;

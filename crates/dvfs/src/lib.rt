@@ -1,4 +1,4 @@
-// pmu/dvfs.rs: the supply modes of HPSYS, their limits and their table.
+// pmu/dvfs.rs: the supply modes of HPSYS and, in `lpsys`, of LPSYS, with their tables.
 mod hpsys;
 pub mod limits;
 pub mod lpsys;

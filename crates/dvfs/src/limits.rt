@@ -1,4 +1,4 @@
-// pmu/dvfs.rs: the limits of a supply mode, `get_dll2_limit` and `get_frequency_limit`.
+// pmu/dvfs.rs: the limits of a supply mode, `get_dll2_limit` and `get_frequency_limit`. Ported since document 01 lists them; nothing calls them.
 ghost use mathlib.Core.Path.{_≡_};
 ghost use Rattle.dvfs.specs.Hpsys.{frequencyLimit};
 ghost use Rattle.dvfs.specs.limits.{dll2Limit, lpsysFrequencyLimit};

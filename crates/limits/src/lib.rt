@@ -1,5 +1,5 @@
-// Tests 9 to 11 of `ConfigBuilder::check`: a frequency outside its limits. One function each, on the frequencies of a plan; 12 to 14 are
-// in `limits::buses`.
+// Tests 4 to 14 of `ConfigBuilder::check`, one function each, one for 6 and 7. 4 to 8, a source that the plan does not have, are in
+// `sources`; 9 to 14, a frequency outside its limits, are here and, from 12 on, in `buses`.
 pub mod buses;
 pub mod sources;
 

@@ -1,7 +1,7 @@
 // Replays recorded answers: those of the original Rust and, of load check, booking, release and the
 // guarded change, those of document 01. Each call has a file of its name, with a line for each time
-// that it was made: what it was given and what it answered (modules `reading` and `calls`). Our answer to the same is compared with the recorded one, and of each file the program
-// says how many lines differ.
+// that it was made: what it was given and what it answered (modules `reading` and `calls`). Our answer
+// to the same is compared with the recorded one, and of each file the program says how many lines differ.
 mod calls;
 mod files;
 mod output;

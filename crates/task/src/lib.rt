@@ -1,4 +1,4 @@
-// A task.
+// A task, its rules, its bytes in a record, and the tests of a list of them in bytes.
 pub mod bytes;
 pub mod list;
 pub mod rules;

@@ -1,4 +1,5 @@
 // time.rs: frequencies made of Hz, kHz and MHz, their sums, products and quotients. The source is modified from embassy-stm32; see NOTICE.
+// Ported since document 01 lists the file; nothing calls them.
 ghost use mathlib.Core.Path.{_≡_};
 ghost use Prim.Native.Nat.{_+_, _*_};
 ghost use Rattle.time.specs.arithmetic.{exact, quotient};
