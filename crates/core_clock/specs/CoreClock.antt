@@ -11,10 +11,11 @@ use Rattle.clock_read.specs.Hpsys.{reg}
 use Rattle.journal.specs.Run.{Effect, idle, _▸_, store}
 use Rattle.core_clock.specs.dividers.{dividers}
 use Rattle.dll.specs.Dll.{configureDll}
+use Rattle.register.specs.Numbers.{SYSCLK}
 
 -- `switch_away_from_dll1`: a core on DLL1 (3) goes to HXT48 (1) where that is ready, else to HRC48 (0)
 unfoldable pub switchAway : Effect
-switchAway r = cond (eqb (reg (r .head) 1) 3) (store 1 (bit (r .head .«hxt48_ready»))) idle r
+switchAway r = cond (eqb (reg (r .head) SYSCLK) 3) (store SYSCLK (bit (r .head .«hxt48_ready»))) idle r
 
 -- `configure_dll1` where the plan has DLL1
 abbrev pub plannedDll1 : MaybeDll → List ℕ → Effect
@@ -23,4 +24,4 @@ plannedDll1 (Present d) a = configureDll 3 d a
 
 -- `apply_dividers_and_sysclk`
 unfoldable pub dividersAndSysclk : Plan → Effect
-dividersAndSysclk p = dividers p ▸ store 1 (p .sys)
+dividersAndSysclk p = dividers p ▸ store SYSCLK (p .sys)

@@ -4,7 +4,7 @@ ghost use mathlib.Core.Bool.{true};
 ghost use Rattle.plan.specs.Plan.{legal};
 ghost use Rattle.register.specs.Word.{wordOf};
 ghost use Rattle.register.specs.Codes.{fitsRegister};
-ghost use Rattle.journal.specs.Machine.{Ran, Ready, Kept};
+ghost use Rattle.journal.specs.Machine.{Lent, Does, none};
 ghost use Rattle.core_clock.specs.dividers.{dividers};
 use journal::Machine;
 use plan::Plan;
@@ -20,12 +20,10 @@ fn dividers_word(p: Plan) -> u32
 }
 
 pub fn apply_dividers(m: Machine, journal: &mut [u32], p: Plan) -> Machine
-    requires { ⌜ Ready 1 m (now journal) ⌝ }
+    requires { ⌜ Lent 1 m (now journal) none ⌝ }
     requires { ⌜ legal p ≡ true ⌝ }
-    ensures { λ r. ⌜ Ran (dividers p) m r (now (journal .entry)) (now (journal .exit)) ⌝ }
-    ensures { λ r. ⌜ Kept 1 m r ⌝ }
-    ensures { λ r. ⌜ r .taken ≡ m .taken ⌝ }
+    ensures { λ r. ⌜ Does 1 (dividers p) m r (now (journal .entry)) (now (journal .exit)) none ⌝ }
 {
     let word = dividers_word(p);
-    m.store(journal, 2, word)
+    m.store(journal, register::HPSYS_CFGR, word)
 }

@@ -1,11 +1,9 @@
 // rcc/clock_config.rs: the core clock set as a plan has it, between the halves of a supply transition.
 ghost use mathlib.Core.Path.{_≡_};
 ghost use mathlib.Core.Bool.{true};
-ghost use Prim.Native.Nat.{_≤_};
-ghost use lib.ListN.{length};
 ghost use Rattle.plan.specs.Plan.{legal};
 ghost use Rattle.plan_clocks.specs.Clocks.{hclkHz};
-ghost use Rattle.journal.specs.Machine.{Ran, Ready, Kept};
+ghost use Rattle.journal.specs.Machine.{Lent, Does, none, taking};
 ghost use Rattle.dvfs.specs.declared.hpsys.HpsysModeFound.the-variants.{Mode};
 ghost use Rattle.core_clock.specs.switch.{configClock, transition, toPlan};
 use dvfs::HpsysDvfsMode;
@@ -19,12 +17,9 @@ const HCLK_ABOVE_240: u8 = 35;
 
 // What the source passes to the supply transition as a closure.
 fn config_clock(m: Machine, journal: &mut [u32], answers: &[u16], p: Plan) -> Machine
-    requires { ⌜ Ready 9 m (now journal) ⌝ }
-    requires { ⌜ (m .taken ≤ length (now answers)) × (length (now answers) ≤ 4096) ⌝ }
+    requires { ⌜ Lent 9 m (now journal) (taking (now answers)) ⌝ }
     requires { ⌜ legal p ≡ true ⌝ }
-    ensures { λ r. ⌜ Ran (configClock p (now (answers .entry))) m r (now (journal .entry)) (now (journal .exit)) ⌝ }
-    ensures { λ r. ⌜ Kept 9 m r ⌝ }
-    ensures { λ r. ⌜ r .taken ≤ length (now (answers .entry)) ⌝ }
+    ensures { λ r. ⌜ Does 9 (configClock p (now (answers .entry))) m r (now (journal .entry)) (now (journal .exit)) (taking (now (answers .entry))) ⌝ }
 {
     let dll1 = p.dll1;
     let m = crate::switch_away_from_dll1(m, journal);
@@ -41,12 +36,9 @@ fn config_in_modes(
     current: HpsysDvfsMode,
     target: HpsysDvfsMode,
 ) -> Machine
-    requires { ⌜ Ready 16 m (now journal) ⌝ }
-    requires { ⌜ (m .taken ≤ length (now answers)) × (length (now answers) ≤ 4096) ⌝ }
+    requires { ⌜ Lent 16 m (now journal) (taking (now answers)) ⌝ }
     requires { ⌜ legal p ≡ true ⌝ }
-    ensures { λ r. ⌜ Ran (transition (Mode current) (Mode target) p (now (answers .entry))) m r (now (journal .entry)) (now (journal .exit)) ⌝ }
-    ensures { λ r. ⌜ Kept 16 m r ⌝ }
-    ensures { λ r. ⌜ r .taken ≤ length (now (answers .entry)) ⌝ }
+    ensures { λ r. ⌜ Does 16 (transition (Mode current) (Mode target) p (now (answers .entry))) m r (now (journal .entry)) (now (journal .exit)) (taking (now (answers .entry))) ⌝ }
 {
     let m = dvfs_hpsys::config_hcpu_dvfs_first(m, journal, current, target);
     let m = config_clock(m, journal, answers, p);
@@ -61,12 +53,9 @@ pub fn config_hcpu_dvfs(
     p: Plan,
     target_hclk: Hertz,
 ) -> Machine
-    requires { ⌜ Ready 16 m (now journal) ⌝ }
-    requires { ⌜ (m .taken ≤ length (now answers)) × (length (now answers) ≤ 4096) ⌝ }
+    requires { ⌜ Lent 16 m (now journal) (taking (now answers)) ⌝ }
     requires { ⌜ (legal p ≡ true) × («target_hclk» .0 ≡ hclkHz p) ⌝ }
-    ensures { λ r. ⌜ Ran (toPlan p (now (answers .entry))) m r (now (journal .entry)) (now (journal .exit)) ⌝ }
-    ensures { λ r. ⌜ Kept 16 m r ⌝ }
-    ensures { λ r. ⌜ r .taken ≤ length (now (answers .entry)) ⌝ }
+    ensures { λ r. ⌜ Does 16 (toPlan p (now (answers .entry))) m r (now (journal .entry)) (now (journal .exit)) (taking (now (answers .entry))) ⌝ }
 {
     let head = m.head;
     let current_hclk = clock_read::get_hclk_freq(head).unwrap_or(clock::CLK_HXT48_FREQ);

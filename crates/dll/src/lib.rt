@@ -1,19 +1,15 @@
 // rcc/clock_config.rs, `configure_dll1`: a DLL set anew, DLL1 or DLL2 by the number of its register.
 pub mod words;
 
-ghost use mathlib.Core.Path.{_≡_};
 ghost use Prim.Native.Nat.{_≤_};
-ghost use lib.ListN.{length};
-ghost use Rattle.journal.specs.Machine.{Ran, Ready, Kept};
+ghost use Rattle.journal.specs.Machine.{Lent, Does, none, taking};
 ghost use Rattle.dll.specs.Dll.{hpbgOn, vddpswOn, relocked, setDll, configureDll};
 use clock::Dll;
 use journal::Machine;
 
 fn enable_hpbg(m: Machine, journal: &mut [u32]) -> Machine
-    requires { ⌜ Ready 1 m (now journal) ⌝ }
-    ensures { λ r. ⌜ Ran hpbgOn m r (now (journal .entry)) (now (journal .exit)) ⌝ }
-    ensures { λ r. ⌜ Kept 1 m r ⌝ }
-    ensures { λ r. ⌜ r .taken ≡ m .taken ⌝ }
+    requires { ⌜ Lent 1 m (now journal) none ⌝ }
+    ensures { λ r. ⌜ Does 1 hpbgOn m r (now (journal .entry)) (now (journal .exit)) none ⌝ }
 {
     let head = m.head;
     let old = head.regs[11];
@@ -24,10 +20,8 @@ fn enable_hpbg(m: Machine, journal: &mut [u32]) -> Machine
 }
 
 fn enable_vddpsw(m: Machine, journal: &mut [u32]) -> Machine
-    requires { ⌜ Ready 1 m (now journal) ⌝ }
-    ensures { λ r. ⌜ Ran vddpswOn m r (now (journal .entry)) (now (journal .exit)) ⌝ }
-    ensures { λ r. ⌜ Kept 1 m r ⌝ }
-    ensures { λ r. ⌜ r .taken ≡ m .taken ⌝ }
+    requires { ⌜ Lent 1 m (now journal) none ⌝ }
+    ensures { λ r. ⌜ Does 1 vddpswOn m r (now (journal .entry)) (now (journal .exit)) none ⌝ }
 {
     let head = m.head;
     let old = head.regs[11];
@@ -39,12 +33,10 @@ fn enable_vddpsw(m: Machine, journal: &mut [u32]) -> Machine
 
 // Off, then on with its new setting.
 fn relock(m: Machine, journal: &mut [u32], number: usize, d: Dll) -> Machine
-    requires { ⌜ Ready 2 m (now journal) ⌝ }
+    requires { ⌜ Lent 2 m (now journal) none ⌝ }
     requires { ⌜ (3 ≤ number) × (number ≤ 4) ⌝ }
     requires { ⌜ d .stage ≤ 15 ⌝ }
-    ensures { λ r. ⌜ Ran (relocked number d) m r (now (journal .entry)) (now (journal .exit)) ⌝ }
-    ensures { λ r. ⌜ Kept 2 m r ⌝ }
-    ensures { λ r. ⌜ r .taken ≡ m .taken ⌝ }
+    ensures { λ r. ⌜ Does 2 (relocked number d) m r (now (journal .entry)) (now (journal .exit)) none ⌝ }
 {
     let head = m.head;
     let off = words::off_word(head, number);
@@ -55,12 +47,10 @@ fn relock(m: Machine, journal: &mut [u32], number: usize, d: Dll) -> Machine
 
 // The bandgap on, and the DLL set.
 fn set_dll(m: Machine, journal: &mut [u32], number: usize, d: Dll) -> Machine
-    requires { ⌜ Ready 4 m (now journal) ⌝ }
+    requires { ⌜ Lent 4 m (now journal) none ⌝ }
     requires { ⌜ (3 ≤ number) × (number ≤ 4) ⌝ }
     requires { ⌜ d .stage ≤ 15 ⌝ }
-    ensures { λ r. ⌜ Ran (setDll number d) m r (now (journal .entry)) (now (journal .exit)) ⌝ }
-    ensures { λ r. ⌜ Kept 4 m r ⌝ }
-    ensures { λ r. ⌜ r .taken ≡ m .taken ⌝ }
+    ensures { λ r. ⌜ Does 4 (setDll number d) m r (now (journal .entry)) (now (journal .exit)) none ⌝ }
 {
     let m = enable_hpbg(m, journal);
     let m = enable_vddpsw(m, journal);
@@ -74,13 +64,10 @@ pub fn configure_dll(
     number: usize,
     d: Dll,
 ) -> Machine
-    requires { ⌜ Ready 6 m (now journal) ⌝ }
-    requires { ⌜ (m .taken ≤ length (now answers)) × (length (now answers) ≤ 4096) ⌝ }
+    requires { ⌜ Lent 6 m (now journal) (taking (now answers)) ⌝ }
     requires { ⌜ (3 ≤ number) × (number ≤ 4) ⌝ }
     requires { ⌜ d .stage ≤ 15 ⌝ }
-    ensures { λ r. ⌜ Ran (configureDll number d (now (answers .entry))) m r (now (journal .entry)) (now (journal .exit)) ⌝ }
-    ensures { λ r. ⌜ Kept 6 m r ⌝ }
-    ensures { λ r. ⌜ r .taken ≤ length (now (answers .entry)) ⌝ }
+    ensures { λ r. ⌜ Does 6 (configureDll number d (now (answers .entry))) m r (now (journal .entry)) (now (journal .exit)) (taking (now (answers .entry))) ⌝ }
 {
     let m = set_dll(m, journal, number, d);
     let m = journal::delay_us(m, journal, 10);

@@ -3,7 +3,7 @@ pub mod switch;
 pub mod volts;
 
 ghost use mathlib.Core.Path.{_≡_};
-ghost use Rattle.journal.specs.Machine.{Ran, Ready, Kept};
+ghost use Rattle.journal.specs.Machine.{Lent, Does, none};
 ghost use Rattle.dvfs_hpsys.specs.HpsysModes.{isS, sameMode, hpsysFirst, hpsysSecond};
 use dvfs::HpsysDvfsMode;
 use journal::Machine;
@@ -32,10 +32,8 @@ pub fn config_hcpu_dvfs_first(
     current: HpsysDvfsMode,
     target: HpsysDvfsMode,
 ) -> Machine
-    requires { ⌜ Ready 5 m (now journal) ⌝ }
-    ensures { λ r. ⌜ Ran (hpsysFirst current target) m r (now (journal .entry)) (now (journal .exit)) ⌝ }
-    ensures { λ r. ⌜ Kept 5 m r ⌝ }
-    ensures { λ r. ⌜ r .taken ≡ m .taken ⌝ }
+    requires { ⌜ Lent 5 m (now journal) none ⌝ }
+    ensures { λ r. ⌜ Does 5 (hpsysFirst current target) m r (now (journal .entry)) (now (journal .exit)) none ⌝ }
 {
     if same_mode(current, target) {
         return m;
@@ -56,10 +54,8 @@ pub fn config_hcpu_dvfs_second(
     current: HpsysDvfsMode,
     target: HpsysDvfsMode,
 ) -> Machine
-    requires { ⌜ Ready 2 m (now journal) ⌝ }
-    ensures { λ r. ⌜ Ran (hpsysSecond current target) m r (now (journal .entry)) (now (journal .exit)) ⌝ }
-    ensures { λ r. ⌜ Kept 2 m r ⌝ }
-    ensures { λ r. ⌜ r .taken ≡ m .taken ⌝ }
+    requires { ⌜ Lent 2 m (now journal) none ⌝ }
+    ensures { λ r. ⌜ Does 2 (hpsysSecond current target) m r (now (journal .entry)) (now (journal .exit)) none ⌝ }
 {
     if same_mode(current, target) {
         return m;

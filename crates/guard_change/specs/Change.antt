@@ -12,6 +12,7 @@ use Rattle.core_clock.specs.CoreClock.{plannedDll1}
 use Rattle.guard_steps.specs.peak.{modeAt, peakOf}
 use Rattle.guard_steps.specs.supply.{raise, settle}
 use Rattle.guard_steps.specs.Steps.{leaveDll1, toHxt48, toPlanned, backTo}
+use Rattle.register.specs.Numbers.{FLASH}
 
 -- all steps, from the peak and the flash selects as they were; "(4) if the plan has DLL1, `configure_dll1`'s stores, delay and wait;
 -- (5) register 2"
@@ -28,4 +29,4 @@ steps peak w p a =
 
 -- the guarded change on a running call: "Nothing else is stored."
 unfoldable pub change : Plan → List ℕ → Effect
-change p a r = steps (peakOf (hzOr 0 (hclkOf (r .head))) (hclkHz p)) (reg (r .head) 5) p a r
+change p a r = steps (peakOf (hzOr 0 (hclkOf (r .head))) (hclkHz p)) (reg (r .head) FLASH) p a r

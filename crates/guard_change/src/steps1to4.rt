@@ -1,10 +1,8 @@
 // The first half of the guarded change on a running call: its steps 1 to 4.
 ghost use mathlib.Core.Path.{_≡_};
 ghost use mathlib.Core.Bool.{true};
-ghost use Prim.Native.Nat.{_≤_};
-ghost use lib.ListN.{length};
 ghost use Rattle.plan.specs.Plan.{legal};
-ghost use Rattle.journal.specs.Machine.{Ran, Ready, Kept};
+ghost use Rattle.journal.specs.Machine.{Lent, Does, taking};
 ghost use Rattle.guard_change.specs.steps1to4.{leave};
 use dvfs::HpsysDvfsMode;
 use journal::Machine;
@@ -18,12 +16,9 @@ pub fn leave(
     p: Plan,
     peak: HpsysDvfsMode,
 ) -> Machine
-    requires { ⌜ Ready 13 m (now journal) ⌝ }
-    requires { ⌜ (m .taken ≤ length (now answers)) × (length (now answers) ≤ 4096) ⌝ }
+    requires { ⌜ Lent 13 m (now journal) (taking (now answers)) ⌝ }
     requires { ⌜ legal p ≡ true ⌝ }
-    ensures { λ r. ⌜ Ran (leave peak p (now (answers .entry))) m r (now (journal .entry)) (now (journal .exit)) ⌝ }
-    ensures { λ r. ⌜ Kept 13 m r ⌝ }
-    ensures { λ r. ⌜ r .taken ≤ length (now (answers .entry)) ⌝ }
+    ensures { λ r. ⌜ Does 13 (leave peak p (now (answers .entry))) m r (now (journal .entry)) (now (journal .exit)) (taking (now (answers .entry))) ⌝ }
 {
     let dll1 = p.dll1;
     let m = guard_steps::supply::raise(m, journal, peak);

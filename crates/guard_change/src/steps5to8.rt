@@ -4,7 +4,7 @@ ghost use mathlib.Core.Bool.{true};
 ghost use Rattle.plan.specs.Plan.{legal};
 ghost use Rattle.plan_clocks.specs.Clocks.{hclkHz};
 ghost use Rattle.register.specs.Codes.{fitsRegister};
-ghost use Rattle.journal.specs.Machine.{Ran, Ready, Kept};
+ghost use Rattle.journal.specs.Machine.{Lent, Does, none};
 ghost use Rattle.guard_change.specs.steps5to8.{arrive};
 use journal::Machine;
 use plan::Plan;
@@ -12,12 +12,10 @@ use time::Hertz;
 
 // Steps 5 to 8: dividers, the plan's select, flash as it was, the volts of the target.
 pub fn arrive(m: Machine, journal: &mut [u32], p: Plan, selects: u32, target: Hertz) -> Machine
-    requires { ⌜ Ready 7 m (now journal) ⌝ }
+    requires { ⌜ Lent 7 m (now journal) none ⌝ }
     requires { ⌜ legal p ≡ true ⌝ }
     requires { ⌜ (fitsRegister 5 selects ≡ true) × (target .0 ≡ hclkHz p) ⌝ }
-    ensures { λ r. ⌜ Ran (arrive selects p) m r (now (journal .entry)) (now (journal .exit)) ⌝ }
-    ensures { λ r. ⌜ Kept 7 m r ⌝ }
-    ensures { λ r. ⌜ r .taken ≡ m .taken ⌝ }
+    ensures { λ r. ⌜ Does 7 (arrive selects p) m r (now (journal .entry)) (now (journal .exit)) none ⌝ }
 {
     let mode = guard_steps::peak::mode_at(target);
     let m = core_clock::dividers::apply_dividers(m, journal, p);

@@ -7,7 +7,7 @@ ghost use mathlib.Core.Path.{_≡_};
 ghost use mathlib.Core.Bool.{true};
 ghost use Rattle.plan.specs.Plan.{legal};
 ghost use Rattle.register.specs.Codes.{fitsRegister};
-ghost use Rattle.journal.specs.Machine.{Ran, Ready, Kept};
+ghost use Rattle.journal.specs.Machine.{Lent, Does, none};
 ghost use Rattle.guard_steps.specs.Steps.{leaveDll1, toHxt48, toPlanned, backTo};
 use journal::Machine;
 use plan::Plan;
@@ -16,57 +16,49 @@ const HXT48: u32 = 1;
 
 // Step 2: flash selects on DLL1 go to Peri.
 pub fn leave_dll1(m: Machine, journal: &mut [u32]) -> Machine
-    requires { ⌜ Ready 1 m (now journal) ⌝ }
-    ensures { λ r. ⌜ Ran leaveDll1 m r (now (journal .entry)) (now (journal .exit)) ⌝ }
-    ensures { λ r. ⌜ Kept 1 m r ⌝ }
-    ensures { λ r. ⌜ r .taken ≡ m .taken ⌝ }
+    requires { ⌜ Lent 1 m (now journal) none ⌝ }
+    ensures { λ r. ⌜ Does 1 leaveDll1 m r (now (journal .entry)) (now (journal .exit)) none ⌝ }
 {
     let head = m.head;
-    let selects = head.regs[5];
+    let selects = head.regs[register::FLASH];
     if flash::is_on_dll1(selects) {
-        return m.store(journal, 5, flash::moved(selects));
+        return m.store(journal, register::FLASH, flash::moved(selects));
     }
     m
 }
 
 // Step 3: the core goes to HXT48.
 pub fn to_hxt48(m: Machine, journal: &mut [u32]) -> Machine
-    requires { ⌜ Ready 1 m (now journal) ⌝ }
-    ensures { λ r. ⌜ Ran toHxt48 m r (now (journal .entry)) (now (journal .exit)) ⌝ }
-    ensures { λ r. ⌜ Kept 1 m r ⌝ }
-    ensures { λ r. ⌜ r .taken ≡ m .taken ⌝ }
+    requires { ⌜ Lent 1 m (now journal) none ⌝ }
+    ensures { λ r. ⌜ Does 1 toHxt48 m r (now (journal .entry)) (now (journal .exit)) none ⌝ }
 {
     let head = m.head;
-    let select = head.regs[1];
+    let select = head.regs[register::SYSCLK];
     if select == HXT48 {
         return m;
     }
-    m.store(journal, 1, HXT48)
+    m.store(journal, register::SYSCLK, HXT48)
 }
 
 // Step 6: the core goes to the plan's select.
 pub fn to_planned(m: Machine, journal: &mut [u32], p: Plan) -> Machine
-    requires { ⌜ Ready 1 m (now journal) ⌝ }
+    requires { ⌜ Lent 1 m (now journal) none ⌝ }
     requires { ⌜ legal p ≡ true ⌝ }
-    ensures { λ r. ⌜ Ran (toPlanned p) m r (now (journal .entry)) (now (journal .exit)) ⌝ }
-    ensures { λ r. ⌜ Kept 1 m r ⌝ }
-    ensures { λ r. ⌜ r .taken ≡ m .taken ⌝ }
+    ensures { λ r. ⌜ Does 1 (toPlanned p) m r (now (journal .entry)) (now (journal .exit)) none ⌝ }
 {
     let sys = p.sys;
-    m.store(journal, 1, sys as u32)
+    m.store(journal, register::SYSCLK, sys as u32)
 }
 
 // Step 7: flash selects that were on DLL1 go back to what they were.
 pub fn back_to(m: Machine, journal: &mut [u32], selects: u32) -> Machine
-    requires { ⌜ Ready 1 m (now journal) ⌝ }
+    requires { ⌜ Lent 1 m (now journal) none ⌝ }
     requires { ⌜ fitsRegister 5 selects ≡ true ⌝ }
-    ensures { λ r. ⌜ Ran (backTo selects) m r (now (journal .entry)) (now (journal .exit)) ⌝ }
-    ensures { λ r. ⌜ Kept 1 m r ⌝ }
-    ensures { λ r. ⌜ r .taken ≡ m .taken ⌝ }
+    ensures { λ r. ⌜ Does 1 (backTo selects) m r (now (journal .entry)) (now (journal .exit)) none ⌝ }
 {
     let were_moved = flash::is_on_dll1(selects);
     if were_moved {
-        return m.store(journal, 5, selects);
+        return m.store(journal, register::FLASH, selects);
     }
     m
 }

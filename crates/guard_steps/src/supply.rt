@@ -1,6 +1,5 @@
 // The supply in the guarded change: the volts raised before the clock and settled after it.
-ghost use mathlib.Core.Path.{_≡_};
-ghost use Rattle.journal.specs.Machine.{Ran, Ready, Kept};
+ghost use Rattle.journal.specs.Machine.{Lent, Does, none};
 ghost use Rattle.journal.specs.Run.{store, _▸_};
 ghost use Rattle.dvfs_hpsys.specs.volts.{sxModeVolt, timing};
 ghost use Rattle.guard_steps.specs.supply.{raise, settle};
@@ -12,10 +11,8 @@ const FIRST_S: usize = 2;
 
 // Step 1: the volts of the peak, where the rail limit is below it.
 pub fn raise(m: Machine, journal: &mut [u32], peak: HpsysDvfsMode) -> Machine
-    requires { ⌜ Ready 5 m (now journal) ⌝ }
-    ensures { λ r. ⌜ Ran (raise peak) m r (now (journal .entry)) (now (journal .exit)) ⌝ }
-    ensures { λ r. ⌜ Kept 5 m r ⌝ }
-    ensures { λ r. ⌜ r .taken ≡ m .taken ⌝ }
+    requires { ⌜ Lent 5 m (now journal) none ⌝ }
+    ensures { λ r. ⌜ Does 5 (raise peak) m r (now (journal .entry)) (now (journal .exit)) none ⌝ }
 {
     let head = m.head;
     let rail = fit::rail::rail_limit(head);
@@ -31,22 +28,18 @@ pub fn raise(m: Machine, journal: &mut [u32], peak: HpsysDvfsMode) -> Machine
 }
 
 fn settle_s(m: Machine, journal: &mut [u32], mode: HpsysDvfsMode) -> Machine
-    requires { ⌜ Ready 4 m (now journal) ⌝ }
-    ensures { λ r. ⌜ Ran (sxModeVolt mode ▸ timing mode ▸ store 12 0) m r (now (journal .entry)) (now (journal .exit)) ⌝ }
-    ensures { λ r. ⌜ Kept 4 m r ⌝ }
-    ensures { λ r. ⌜ r .taken ≡ m .taken ⌝ }
+    requires { ⌜ Lent 4 m (now journal) none ⌝ }
+    ensures { λ r. ⌜ Does 4 (sxModeVolt mode ▸ timing mode ▸ store 12 0) m r (now (journal .entry)) (now (journal .exit)) none ⌝ }
 {
     let m = dvfs_hpsys::volts::config_hcpu_sx_mode_volt(m, journal, mode);
     let m = dvfs_hpsys::volts::store_timing(m, journal, mode);
-    m.store(journal, 12, 0)
+    m.store(journal, register::HPSYS_SUPPLY, 0)
 }
 
 // Step 8: the volts, the timing and the supply of the target's mode.
 pub fn settle(m: Machine, journal: &mut [u32], mode: HpsysDvfsMode) -> Machine
-    requires { ⌜ Ready 4 m (now journal) ⌝ }
-    ensures { λ r. ⌜ Ran (settle mode) m r (now (journal .entry)) (now (journal .exit)) ⌝ }
-    ensures { λ r. ⌜ Kept 4 m r ⌝ }
-    ensures { λ r. ⌜ r .taken ≡ m .taken ⌝ }
+    requires { ⌜ Lent 4 m (now journal) none ⌝ }
+    ensures { λ r. ⌜ Does 4 (settle mode) m r (now (journal .entry)) (now (journal .exit)) none ⌝ }
 {
     if mode.number() < FIRST_S {
         let m = dvfs_hpsys::switch::switch_hcpu_dvfs_s2d_first(m, journal, mode);

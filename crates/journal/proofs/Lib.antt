@@ -4,6 +4,7 @@ pub mod Delays
 pub mod Replay
 pub mod Moments
 pub mod Steps
+pub mod Does
 pub mod Framed
 pub mod Present
 pub mod Ended

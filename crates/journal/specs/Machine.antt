@@ -33,3 +33,45 @@ pub record Ready (k : ℕ) (m : Machine) (j : List ℕ) : Type 0 where
 pub record Kept (k : ℕ) (m m' : Machine) : Type 0 where
   pub room : m' .at ≤ m .at + k
   pub encodable : Encodable (m' .head)
+
+-- the answers that a function over the machine may take: none, or those of a lent list
+pub data Answers : Type 0 where
+  none : Answers
+  taking : List ℕ → Answers
+
+-- no more answers are taken than are lent, and at most 4096 are lent
+abbrev pub InHand : Answers → Machine → Type 0
+InHand none m = Unit {0}
+InHand (taking a) m = (m .taken ≤ length a) × (length a ≤ 4096)
+
+-- what becomes of them: a function that is lent none takes none
+abbrev pub Took : Answers → Machine → Machine → Type 0
+Took none m m' = m' .taken ≡ m .taken
+Took (taking a) m m' = InHand (taking a) m'
+
+-- what a function over the machine `m` asks: the journal `j`, and the answers, are lent to it
+pub record Lent (k : ℕ) (m : Machine) (j : List ℕ) (a : Answers) : Type 0 where
+  -- the journal has room for `k` entries more
+  pub room : m .at + k ≤ length j
+  -- the head is one that its record holds
+  pub encodable : Encodable (m .head)
+  -- the answers taken so far are of those lent
+  pub answers : InHand a m
+
+-- what it promises: it does the effect `f`, from the machine `m` and the journal `j` to `m'` and `j'`
+pub record Does (k : ℕ) (f : Effect) (m m' : Machine) (j j' : List ℕ) (a : Answers) : Type 0 where
+  -- machine and journal follow the effect
+  pub ran : Ran f m m' j j'
+  -- at most `k` entries are written
+  pub room : m' .at ≤ m .at + k
+  -- the head is still one that its record holds
+  pub encodable : Encodable (m' .head)
+  -- the answers taken are of those lent
+  pub answers : Took a m m'
+
+-- the same of a function that is lent no journal: it writes no entry and takes no answer
+pub record DoesWithoutJournal (f : Effect) (m m' : Machine) : Type 0 where
+  pub ran : Quietly f m m'
+  pub room : m' .at ≤ m .at
+  pub encodable : Encodable (m' .head)
+  pub answers : m' .taken ≡ m .taken

@@ -4,11 +4,10 @@
 ghost use mathlib.Core.Path.{_≡_};
 ghost use mathlib.Core.Bool.{true};
 ghost use Prim.Native.Nat.{_<_, _≤_};
-ghost use lib.ListN.{length};
 ghost use Rattle.register.specs.Codes.{fitsRegister};
 ghost use Rattle.head.specs.Encodable.{Encodable};
 ghost use Rattle.journal.specs.Run.{cycles as cyclesOf, going, wrote, halted, store, delay};
-ghost use Rattle.journal.specs.Machine.{Ran, Quietly, Ready, Kept};
+ghost use Rattle.journal.specs.Machine.{Lent, Does, DoesWithoutJournal, none};
 use head::Head;
 use time::Hertz;
 use time::Reading;
@@ -25,11 +24,9 @@ pub struct Machine {
 
 impl Machine {
     pub fn store(self, journal: &mut [u32], number: usize, value: u32) -> Machine
-        requires { ⌜ Ready 1 self (now journal) ⌝ }
+        requires { ⌜ Lent 1 self (now journal) none ⌝ }
         requires { ⌜ (number < 35) × (fitsRegister number value ≡ true) ⌝ }
-        ensures { λ r. ⌜ Ran (store number value) self r (now (journal .entry)) (now (journal .exit)) ⌝ }
-        ensures { λ r. ⌜ Kept 1 self r ⌝ }
-        ensures { λ r. ⌜ r .taken ≡ self .taken ⌝ }
+        ensures { λ r. ⌜ Does 1 (store number value) self r (now (journal .entry)) (now (journal .exit)) none ⌝ }
     {
         let mut head = self.head;
         let mut at = self.at;
@@ -49,10 +46,8 @@ impl Machine {
 
     // Writes an entry that is no store.
     pub fn write(self, journal: &mut [u32], word: u32) -> Machine
-        requires { ⌜ Ready 1 self (now journal) ⌝ }
-        ensures { λ r. ⌜ Ran (going (wrote word)) self r (now (journal .entry)) (now (journal .exit)) ⌝ }
-        ensures { λ r. ⌜ Kept 1 self r ⌝ }
-        ensures { λ r. ⌜ r .taken ≡ self .taken ⌝ }
+        requires { ⌜ Lent 1 self (now journal) none ⌝ }
+        ensures { λ r. ⌜ Does 1 (going (wrote word)) self r (now (journal .entry)) (now (journal .exit)) none ⌝ }
     {
         let head = self.head;
         let mut at = self.at;
@@ -72,9 +67,7 @@ impl Machine {
     // Ends the call with a refusal; what was stored stays.
     pub fn refuse(self, refusal: u8) -> Machine
         requires { ⌜ Encodable (self .head) ⌝ }
-        ensures { λ r. ⌜ Quietly (halted refusal) self r ⌝ }
-        ensures { λ r. ⌜ Kept 0 self r ⌝ }
-        ensures { λ r. ⌜ r .taken ≡ self .taken ⌝ }
+        ensures { λ r. ⌜ DoesWithoutJournal (halted refusal) self r ⌝ }
     {
         let head = self.head;
         let mut stop = self.stop;
@@ -101,11 +94,9 @@ fn cycles(f: Hertz, us: u32) -> u32
 
 // lib.rs `cortex_m_blocking_delay_us`: writes the delay's cycles, or ends the call with 34 where HCLK does not read.
 pub fn delay_us(m: Machine, journal: &mut [u32], us: u32) -> Machine
-    requires { ⌜ Ready 1 m (now journal) ⌝ }
+    requires { ⌜ Lent 1 m (now journal) none ⌝ }
     requires { ⌜ us ≤ 1000 ⌝ }
-    ensures { λ r. ⌜ Ran (delay us) m r (now (journal .entry)) (now (journal .exit)) ⌝ }
-    ensures { λ r. ⌜ Kept 1 m r ⌝ }
-    ensures { λ r. ⌜ r .taken ≡ m .taken ⌝ }
+    ensures { λ r. ⌜ Does 1 (delay us) m r (now (journal .entry)) (now (journal .exit)) none ⌝ }
 {
     let head = m.head;
     let Reading::At(f) = clock_read::get_hclk_freq(head) else {

@@ -1,3 +1,4 @@
 pub mod Word
 pub mod Codes
 pub mod bytes
+pub mod Numbers

@@ -6,7 +6,7 @@ ghost use mathlib.Core.Path.{_≡_};
 ghost use Prim.Native.Nat.{_<_, _≤_};
 ghost use lib.ListN.{length, drop};
 ghost use Rattle.journal.specs.Run.{poll, wait, measure};
-ghost use Rattle.journal.specs.Machine.{Ran, Ready, Kept};
+ghost use Rattle.journal.specs.Machine.{Lent, Does, taking};
 ghost use Rattle.waits.specs.Found.{Found};
 use journal::Machine;
 
@@ -27,11 +27,9 @@ fn first_ready(answers: &[u16], from: usize) -> usize
 
 // Waits of kinds 3, 4 and 6, and the polls of the others: writes the wait, or ends the call with 36 where the answers run out.
 pub fn wait_for(m: Machine, journal: &mut [u32], answers: &[u16], kind: u32) -> Machine
-    requires { ⌜ Ready 1 m (now journal) ⌝ }
-    requires { ⌜ (kind < 7) × ((m .taken ≤ length (now answers)) × (length (now answers) ≤ 4096)) ⌝ }
-    ensures { λ r. ⌜ Ran (wait kind (now (answers .entry))) m r (now (journal .entry)) (now (journal .exit)) ⌝ }
-    ensures { λ r. ⌜ Kept 1 m r ⌝ }
-    ensures { λ r. ⌜ r .taken ≤ length (now (answers .entry)) ⌝ }
+    requires { ⌜ Lent 1 m (now journal) (taking (now answers)) ⌝ }
+    requires { ⌜ kind < 7 ⌝ }
+    ensures { λ r. ⌜ Does 1 (wait kind (now (answers .entry))) m r (now (journal .entry)) (now (journal .exit)) (taking (now (answers .entry))) ⌝ }
 {
     let head = m.head;
     let mut at = m.at;
@@ -58,11 +56,9 @@ pub fn wait_for(m: Machine, journal: &mut [u32], answers: &[u16], kind: u32) -> 
 
 // Kind 5: polls, and takes two answers more, which are the counts; they are the last two taken.
 pub fn measure(m: Machine, journal: &mut [u32], answers: &[u16]) -> Machine
-    requires { ⌜ Ready 1 m (now journal) ⌝ }
-    requires { ⌜ (m .taken ≤ length (now answers)) × (length (now answers) ≤ 4096) ⌝ }
-    ensures { λ r. ⌜ Ran (measure (now (answers .entry))) m r (now (journal .entry)) (now (journal .exit)) ⌝ }
-    ensures { λ r. ⌜ Kept 1 m r ⌝ }
-    ensures { λ r. ⌜ (r .taken ≤ length (now (answers .entry))) × (r .stop ≡ 0 → 2 ≤ r .taken) ⌝ }
+    requires { ⌜ Lent 1 m (now journal) (taking (now answers)) ⌝ }
+    ensures { λ r. ⌜ Does 1 (measure (now (answers .entry))) m r (now (journal .entry)) (now (journal .exit)) (taking (now (answers .entry))) ⌝ }
+    ensures { λ r. ⌜ (r .stop ≡ 0 → 2 ≤ r .taken) ⌝ }
 {
     let head = m.head;
     let mut at = m.at;

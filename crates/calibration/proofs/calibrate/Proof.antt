@@ -33,9 +33,9 @@ returns c =
     let length = c .before .before .before .before .before .before .before .before .before .before .before .store in
     let clocks = c .before .before .before .before .before .before .store2 in
     let search = c .before .before .search in (
-      ran-then (ran-then (length .ensures .0) (rw (c .before .before .before .before .before .before .before .word .ensures) at (clocks .ensures .0))) (search .ensures .0),
+      ran-then (ran-then (length .ensures .ran) (rw (c .before .before .before .before .before .before .before .word .ensures) at (clocks .ensures .ran))) (search .ensures .0),
       (
-        record { room = omega (arith, length .ensures .1 .0 .room, clocks .ensures .1 .0 .room, search .ensures .1 .0 .room); encodable = search .ensures .1 .0 .encodable },
+        record { room = omega (arith, length .ensures .room, clocks .ensures .room, search .ensures .1 .0 .room); encodable = search .ensures .1 .0 .encodable },
         search .ensures .1 .1,
       ),
     )

@@ -5,6 +5,7 @@ use Rattle.head.specs.declared.Head.{Head}
 use Rattle.journal.specs.Run.{halted}
 use Rattle.journal.proofs.Steps.{of-head, kept-within}
 use Rattle.calibration.specs.Calibration.{calibrate, calibrateHrc48}
+use Rattle.journal.proofs.Does.{clauses-beside}
 use borrow.Author.Needs.{needs}
 use Rattle.calibration.proofs.calibrate_hrc48.Statement.{statement}
 use Rattle.calibration.proofs.calibrate_hrc48.Tie as tie
@@ -24,7 +25,7 @@ refuse-requires c κs = search needs
 
 returns-2 : tie.Need-returns-2
 unfolding calibrateHrc48
-returns-2 c = of-head (λ (h : Head). cond (h .«hxt48_ready») (calibrate _) (halted 31)) (simp (c .before .if1 .left) (c .refuse .ensures .0 _, (kept-within (omega arith) (c .refuse .ensures .1 .0), omega (arith, c .refuse .ensures .1 .1, c .before .before .before .before .before .pre .1 .0))))
+returns-2 c = of-head (λ (h : Head). cond (h .«hxt48_ready») (calibrate _) (halted 31)) (simp (c .before .if1 .left) (clauses-beside (c .refuse .ensures) .0 _, (kept-within (omega arith) (clauses-beside (c .refuse .ensures) .1 .0), omega (arith, clauses-beside (c .refuse .ensures) .1 .1, c .before .before .before .before .before .pre .1 .0))))
 
 pub calibrate-hrc48-spec : {M : Type 1} → statement M
 calibrate-hrc48-spec =

@@ -1,7 +1,7 @@
 -- `dll::configure_dll` meets its contract: one step after the other. Assumes nothing.
 use native.Mathlib.Omega.{arith}
-use Rattle.journal.proofs.Steps.{both, both-quiet}
 use Rattle.dll.specs.Dll.{configureDll}
+use Rattle.journal.proofs.Does.{_then_, lent-after}
 use borrow.Author.Needs.{needs}
 use Rattle.dll.proofs.configure_dll.Statement.{statement}
 use Rattle.dll.proofs.configure_dll.Tie as tie
@@ -13,17 +13,27 @@ delay-us-requires : tie.Need-delay-us-requires
 delay-us-requires c κs = search needs
 
 cast-wait-for : tie.Need-cast-wait-for
-cast-wait-for c = search (needs, c .before .before .before .before .before .before .before .before .before .before .before .pre .1 .1 .0 .1)
+cast-wait-for c =
+    let start : tie.Start = search in
+    search (needs, start .pre .1 .0 .1)
 
 wait-for-requires : tie.Need-wait-for-requires
-wait-for-requires c κs = (search needs, (omega (arith, c .before .before .before .before .before .before .before .before .before .before .before .pre .1 .1 .0 .1), (omega (arith, c .before .before .before .delay-us .ensures .1 .1, c .before .before .before .before .before .before .before .set-dll .ensures .1 .1, c .before .before .before .before .before .before .before .before .before .before .before .pre .1 .0 .0), c .before .before .before .before .before .before .before .before .before .before .before .pre .1 .0 .1)))
+wait-for-requires c κs =
+    let after-delay-us : tie.After-delay-us = search in
+    let after-set-dll : tie.After-set-dll = search in
+    let start : tie.Start = search in
+    (lent-after (omega arith) (start .pre .0) (after-set-dll .set-dll .ensures then after-delay-us .delay-us .ensures), omega (arith, start .pre .1 .0 .1))
 
 same-length : tie.Need-same-length
 same-length c = search needs
 
 returns : tie.Need-returns
 unfolding configureDll
-returns c = both (both-quiet (c .before .before .before .before .before .before .before .before .before .before .set-dll .ensures) (c .before .before .before .before .before .before .delay-us .ensures)) (c .before .before .wait-for .ensures)
+returns c =
+    let after-wait-for : tie.After-wait-for = search in
+    let after-delay-us : tie.After-delay-us = search in
+    let after-set-dll : tie.After-set-dll = search in
+    after-set-dll .set-dll .ensures then after-delay-us .delay-us .ensures then after-wait-for .wait-for .ensures
 
 pub configure-dll-spec : {M : Type 1} → statement M
 configure-dll-spec =

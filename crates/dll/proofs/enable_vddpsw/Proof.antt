@@ -7,9 +7,9 @@ use Rattle.head.specs.declared.Head.{Head}
 use Rattle.register.specs.Word.{wordOf, byteB, byteC}
 use Rattle.clock_read.specs.Hpsys.{reg}
 use Rattle.journal.specs.Run.{Effect, idle, store}
-use Rattle.journal.proofs.Steps.{no-step, of-head}
 use Rattle.dll.specs.Dll.{vddpswOn}
 use Rattle.dll.proofs.Fits.{vddpsw-fits}
+use Rattle.journal.proofs.Does.{by-head, does-nothing}
 use borrow.Author.Needs.{needs}
 use Rattle.dll.proofs.enable_vddpsw.Statement.{statement}
 use Rattle.dll.proofs.enable_vddpsw.Tie as tie
@@ -22,7 +22,11 @@ c-requires c κs = search needs
 
 returns : tie.Need-returns
 unfolding vddpswOn
-returns c = of-head (λ (h : Head). cond (eqb (byteC (reg h 11)) 0) (store 11 (wordOf 0 (byteB (reg h 11)) 1)) idle) (simp (← c .before .c .ensures, ne-eqb _ _ (c .if1 .taken)) (no-step 1 _ _ (c .before .before .before .before .before .pre .encodable) refl))
+returns c =
+    let after-c : tie.After-c = search in
+    let start : tie.Start = search in
+    by-head (λ (h : Head). cond (eqb (byteC (reg h 11)) 0) (store 11 (wordOf 0 (byteB (reg h 11)) 1)) idle)
+    (simp (← after-c .c .ensures, ne-eqb _ _ (c .if1 .taken)) (does-nothing (start .pre)))
 
 b-requires : tie.Need-b-requires
 b-requires c κs = search needs
@@ -31,14 +35,24 @@ word-requires : tie.Need-word-requires
 word-requires c κs = search needs
 
 store-requires : tie.Need-store-requires
-store-requires c κs = (search needs, (search needs, simp (c .word .ensures, c .before .b .ensures) (vddpsw-fits (c .before .before .before .before .before .before .before .before .args .m .head) (c .before .before .before .before .before .before .before .before .pre .encodable))))
+store-requires c κs =
+    let after-b : tie.After-b = search in
+    let start : tie.Start = search in
+    (search needs, (search needs, simp (c .word .ensures, after-b .b .ensures) (vddpsw-fits (start .args .m .head) (start .pre .encodable))))
 
 same-length : tie.Need-same-length
 same-length c = search needs
 
 returns-2 : tie.Need-returns-2
 unfolding vddpswOn
-returns-2 c = of-head (λ (h : Head). cond (eqb (byteC (reg h 11)) 0) (store 11 (wordOf 0 (byteB (reg h 11)) 1)) idle) (simp (← c .before .before .before .before .before .before .before .c .ensures, eq-eqb _ _ (c .before .before .before .before .before .before .if1 .left), ← c .before .before .before .before .b .ensures, ← c .before .before .before .word .ensures) (c .before .before .store .ensures))
+returns-2 c =
+    let after-store : tie.After-store = search in
+    let after-word : tie.After-word = search in
+    let after-b : tie.After-b = search in
+    let else1 : tie.Else1 = search in
+    let after-c : tie.After-c = search in
+    by-head (λ (h : Head). cond (eqb (byteC (reg h 11)) 0) (store 11 (wordOf 0 (byteB (reg h 11)) 1)) idle)
+    (simp (← after-c .c .ensures, eq-eqb _ _ (else1 .if1 .left), ← after-b .b .ensures, ← after-word .word .ensures) (after-store .store .ensures))
 
 pub enable-vddpsw-spec : {M : Type 1} → statement M
 enable-vddpsw-spec =

@@ -1,6 +1,6 @@
 -- `dll::set_dll` meets its contract: one step after the other. Assumes nothing.
-use Rattle.journal.proofs.Steps.{both-quiet}
 use Rattle.dll.specs.Dll.{setDll}
+use Rattle.journal.proofs.Does.{_then_}
 use borrow.Author.Needs.{needs}
 use Rattle.dll.proofs.set_dll.Statement.{statement}
 use Rattle.dll.proofs.set_dll.Tie as tie
@@ -19,7 +19,11 @@ same-length c = search needs
 
 returns : tie.Need-returns
 unfolding setDll
-returns c = both-quiet (both-quiet (c .before .before .before .before .before .before .before .before .before .before .enable-hpbg .ensures) (c .before .before .before .before .before .before .enable-vddpsw .ensures)) (c .before .before .relock .ensures)
+returns c =
+    let after-relock : tie.After-relock = search in
+    let after-enable-vddpsw : tie.After-enable-vddpsw = search in
+    let after-enable-hpbg : tie.After-enable-hpbg = search in
+    after-enable-hpbg .enable-hpbg .ensures then after-enable-vddpsw .enable-vddpsw .ensures then after-relock .relock .ensures
 
 pub set-dll-spec : {M : Type 1} → statement M
 set-dll-spec =

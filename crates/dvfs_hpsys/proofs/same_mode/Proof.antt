@@ -10,7 +10,9 @@ number-requires-2 : tie.Need-number-requires-2
 number-requires-2 c κs = search needs
 
 returns : tie.Need-returns
-returns c = simp (c .before .number .ensures .0, c .number2 .ensures .0)
+returns c =
+    let after-number : tie.After-number = search in
+    simp (after-number .number .ensures .0, c .number2 .ensures .0)
 
 pub same-mode-spec : {M : Type 1} → statement M
 same-mode-spec = tie.close (tie.spec number-requires number-requires-2 returns)

@@ -9,6 +9,8 @@ use Rattle.call.proofs.Ending.{call-unadmitted, call-refused-by, call-ran, call
 use Rattle.guard_change.specs.Change.{change}
 use Rattle.guard.specs.Guard.{changeTests, changeCall}
 use Rattle.guard.proofs.Ways.{tests-plan, tests-own, ran-planned}
+use Rattle.journal.specs.Machine.{taking}
+use Rattle.journal.proofs.Does.{clauses-taking, lent-as}
 use borrow.Author.Needs.{needs}
 use Rattle.guard.proofs.change.Statement.{statement}
 use Rattle.guard.proofs.change.Tie as tie
@@ -86,10 +88,10 @@ change-requires c κs =
     let z = c .before .before .before .before .before .before .before .before .before .if1 .left in
     let w = c .before .before .before .before .before .before .if2 .left in
     let room = answers-room (start .args .buffer .now) (start .args .journal .now) (start .args .answers .now) admitted z in
-    (started 20 _ _ _ (c .before .start .ensures) (call-encodable admitted z) (omega arith) (room .0), ((rw (c .before .start .ensures) (omega arith), room .1), (planned .legal-is w, ap (λ (t : Target). t .hclk .0) (planned .target-is w))))
+    (lent-as (taking _) (started 20 _ _ _ (c .before .start .ensures) (call-encodable admitted z) (omega arith) (room .0)) (rw (c .before .start .ensures) (omega arith), room .1), (planned .legal-is w, ap (λ (t : Target). t .hclk .0) (planned .target-is w)))
 
 finish-requires : tie.Need-finish-requires
-finish-requires c κs = (c .before .before .before .change .ensures .1 .0 .encodable, call-bytes (c .before .before .before .before .before .before .before .before .before .before .before .before .before .before .before .admit-with-answers .ensures) (c .before .before .before .before .before .before .before .before .before .before .before .before .before .if1 .left))
+finish-requires c κs = (clauses-taking (c .before .before .before .change .ensures) .1 .0 .encodable, call-bytes (c .before .before .before .before .before .before .before .before .before .before .before .before .before .before .before .admit-with-answers .ensures) (c .before .before .before .before .before .before .before .before .before .before .before .before .before .if1 .left))
 
 same-length-7 : tie.Need-same-length-7
 same-length-7 c = search needs
@@ -105,7 +107,7 @@ returns-4 c =
     let planned = c .before .before .before .before .before .before .before .before .before .before .before .before .before .before .before .admit .ensures in
     let z = c .before .before .before .before .before .before .before .before .before .before .before .before .before .before .before .before .if1 .left in
     let w = c .before .before .before .before .before .before .before .before .before .before .before .before .before .if2 .left in
-    let ran = ran-planned (start .args .plan .now) (start .args .buffer .now) (start .args .journal .now) (start .args .answers .now) admitted planned z w (c .before .before .before .before .before .before .change .ensures .0) in
+    let ran = ran-planned (start .args .plan .now) (start .args .buffer .now) (start .args .journal .now) (start .args .answers .now) admitted planned z w (clauses-taking (c .before .before .before .before .before .before .change .ensures) .0) in
     call-ran admitted (changeTests (start .args .plan .now) (start .args .buffer .now)) (change (planOf (start .args .plan .now)) (start .args .answers .now)) 0 _ _ _ _ _ _ z (tests-own (start .args .plan .now) (start .args .buffer .now) (start .args .journal .now) (start .args .answers .now) admitted planned z w ∙ (sym (c .before .before .before .before .before .before .before .before .before .before .refusal .ensures) ∙ c .before .before .before .before .before .before .before .before .before .if3 .left)) (c .before .before .before .before .before .before .before .before .start .ensures) ran (c .before .before .finish .ensures)
 
 pub change-spec : {M : Type 1} → statement M

@@ -5,9 +5,9 @@ use Rattle.head.specs.declared.Head.{Head}
 use Rattle.time.specs.Frequency.{hzOr}
 use Rattle.plan_clocks.specs.Clocks.{hclkHz}
 use Rattle.clock_read.specs.Hpsys.{reg, hclkOf}
-use Rattle.journal.proofs.Steps.{then-quiet, of-head}
 use Rattle.guard_steps.specs.peak.{peakOf}
 use Rattle.guard_change.specs.Change.{steps, change}
+use Rattle.journal.proofs.Does.{_then_, by-head, lent-within}
 use borrow.Author.Needs.{needs}
 use Rattle.guard_change.proofs.change.Statement.{statement}
 use Rattle.guard_change.proofs.change.Tie as tie
@@ -25,10 +25,14 @@ peak-requires : tie.Need-peak-requires
 peak-requires c κs = search needs
 
 leave-requires : tie.Need-leave-requires
-leave-requires c κs = search needs
+leave-requires c κs =
+    let start : tie.Start = search in
+    (lent-within (omega arith) (start .pre .0), start .pre .1 .0)
 
 arrive-requires : tie.Need-arrive-requires
-arrive-requires c κs = (search needs, (c .before .before .before .before .before .before .before .before .before .before .before .before .pre .1 .1 .0, (c .before .before .before .before .before .before .before .before .before .before .before .before .pre .0 .encodable .codes 5 (omega arith), c .before .before .before .before .before .before .before .before .before .before .before .before .pre .1 .1 .1)))
+arrive-requires c κs =
+    let start : tie.Start = search in
+    (search needs, (start .pre .1 .0, (start .pre .0 .encodable .codes 5 (omega arith), start .pre .1 .1)))
 
 same-length : tie.Need-same-length
 same-length c = search needs
@@ -36,10 +40,17 @@ same-length c = search needs
 returns : tie.Need-returns
 unfolding change
 returns c =
-    let start = c .before .before .before .before .before .before .before .before .before .before .before .before .before .before .before in
-    let peak : peakOf (hzOr 0 (hclkOf (start .args .m .head))) (hclkHz (start .args .p)) ≡ c .before .before .before .before .before .before .before .before .peak .result = simp (← c .before .before .before .before .before .before .before .before .before .before .get-hclk-freq .ensures, ← c .before .before .before .before .before .before .before .before .before .unwrap-or .ensures, ← start .pre .1 .1 .1) (sym (c .before .before .before .before .before .before .before .before .peak .ensures)) in
-    of-head (λ (h : Head). steps (peakOf (hzOr 0 (hclkOf h)) (hclkHz (start .args .p))) (reg h 5) (start .args .p) (start .args .answers .now))
-    (rw peak (then-quiet (c .before .before .before .before .before .before .leave .ensures) (c .before .before .arrive .ensures)))
+    let start : tie.Start = search in
+    let arrived : tie.After-arrive = search in
+    let left : tie.After-leave = search in
+    let found : tie.After-peak = search in
+    let present : tie.After-unwrap-or = search in
+    let read : tie.After-get-hclk-freq = search in
+    let p = start .args .p in
+    let peak : peakOf (hzOr 0 (hclkOf (start .args .m .head))) (hclkHz p) ≡ found .peak .result =
+    simp (← read .get-hclk-freq .ensures, ← present .unwrap-or .ensures, ← start .pre .1 .1) (sym (found .peak .ensures)) in
+    by-head (λ (h : Head). steps (peakOf (hzOr 0 (hclkOf h)) (hclkHz p)) (reg h 5) p (start .args .answers .now))
+    (rw peak (left .leave .ensures then arrived .arrive .ensures))
 
 pub change-spec : {M : Type 1} → statement M
 change-spec =

@@ -1,7 +1,7 @@
 -- `guard_steps::back_to` meets its contract: one was on DLL1 or none. Assumes nothing.
-use mathlib.Core.Path.{refl, sym, _∙_}
-use Rattle.journal.proofs.Steps.{no-step}
+use mathlib.Core.Path.{sym, _∙_}
 use Rattle.guard_steps.specs.Steps.{backTo}
+use Rattle.journal.proofs.Does.{does-nothing}
 use borrow.Author.Needs.{needs}
 use Rattle.guard_steps.proofs.back_to.Statement.{statement}
 use Rattle.guard_steps.proofs.back_to.Tie as tie
@@ -17,11 +17,18 @@ same-length c = search needs
 
 returns : tie.Need-returns
 unfolding backTo
-returns c = rw (sym (c .before .before .before .before .before .is-on-dll1 .ensures) ∙ c .before .before .before .before .if1 .taken) (c .before .before .store .ensures)
+returns c =
+    let stored : tie.After-store = search in
+    let then1 : tie.Then1 = search in
+    let tested : tie.After-is-on-dll1 = search in
+    rw (sym (tested .is-on-dll1 .ensures) ∙ then1 .if1 .taken) (stored .store .ensures)
 
 returns-2 : tie.Need-returns-2
 unfolding backTo
-returns-2 c = rw (sym (c .before .is-on-dll1 .ensures) ∙ c .if1 .left) (no-step 1 _ _ (c .before .before .before .pre .0 .encodable) refl)
+returns-2 c =
+    let tested : tie.After-is-on-dll1 = search in
+    let start : tie.Start = search in
+    rw (sym (tested .is-on-dll1 .ensures) ∙ c .if1 .left) (does-nothing (start .pre .0))
 
 pub back-to-spec : {M : Type 1} → statement M
 back-to-spec =

@@ -9,14 +9,18 @@ cast-store : tie.Need-cast-store
 cast-store c = search needs
 
 store-requires : tie.Need-store-requires
-store-requires c κs = (search needs, (search needs, sys-fits (c .before .before .args .p) (c .before .before .pre .1)))
+store-requires c κs =
+    let start : tie.Start = search in
+    (search needs, (search needs, sys-fits (start .args .p) (start .pre .1)))
 
 same-length : tie.Need-same-length
 same-length c = search needs
 
 returns : tie.Need-returns
 unfolding toPlanned
-returns c = c .before .before .store .ensures
+returns c =
+    let after-store : tie.After-store = search in
+    after-store .store .ensures
 
 pub to-planned-spec : {M : Type 1} → statement M
 to-planned-spec = tie.close (tie.spec cast-store store-requires same-length returns)

@@ -2,6 +2,7 @@
 use Rattle.journal.proofs.Steps.{both-quiet}
 use Rattle.init_first.specs.First.{bootStores}
 use Rattle.init_first.proofs.Fits.{low-power-fits, lrc32-fits, buffer-fits}
+use Rattle.journal.proofs.Does.{clauses}
 use borrow.Author.Needs.{needs}
 use Rattle.init_first.proofs.boot_stores.Statement.{statement}
 use Rattle.init_first.proofs.boot_stores.Tie as tie
@@ -20,7 +21,7 @@ same-length c = search needs
 
 returns : tie.Need-returns
 unfolding bootStores
-returns c = both-quiet (both-quiet (c .before .before .before .before .before .before .before .before .before .before .store .ensures) (c .before .before .before .before .before .before .store2 .ensures)) (c .before .before .store3 .ensures)
+returns c = both-quiet (both-quiet (clauses (c .before .before .before .before .before .before .before .before .before .before .store .ensures)) (clauses (c .before .before .before .before .before .before .store2 .ensures))) (clauses (c .before .before .store3 .ensures))
 
 pub boot-stores-spec : {M : Type 1} → statement M
 boot-stores-spec =

@@ -3,6 +3,7 @@ use native.Mathlib.Omega.{arith}
 use Rattle.register.proofs.Fits.{zero-fits}
 use Rattle.journal.proofs.Steps.{both, then-quiet}
 use Rattle.init_rest.specs.Rest.{moveDll2}
+use Rattle.journal.proofs.Does.{clauses, clauses-taking}
 use borrow.Author.Needs.{needs}
 use Rattle.init_rest.proofs.move_dll2.Statement.{statement}
 use Rattle.init_rest.proofs.move_dll2.Tie as tie
@@ -21,7 +22,7 @@ same-length c = search needs
 
 returns : tie.Need-returns
 unfolding moveDll2
-returns c = then-quiet (both (c .before .before .before .before .before .before .before .before .before .before .store .ensures) (c .before .before .before .before .before .before .configure-dll .ensures)) (c .before .before .store2 .ensures)
+returns c = then-quiet (both (clauses (c .before .before .before .before .before .before .before .before .before .before .store .ensures)) (clauses-taking (c .before .before .before .before .before .before .configure-dll .ensures))) (clauses (c .before .before .store2 .ensures))
 
 pub move-dll2-spec : {M : Type 1} → statement M
 move-dll2-spec =

@@ -2,7 +2,7 @@
 use native.Mathlib.Omega.{arith}
 use mathlib.Core.Path.{sym, subst, _∙_}
 use Rattle.clock_read.proofs.Most.{Most, most-at, most-hclk}
-use Rattle.journal.proofs.Steps.{step-as}
+use Rattle.journal.proofs.Does.{does-as, beside}
 use Rattle.journal.proofs.Delays.{delay-reads, delay-unread}
 use borrow.Author.Needs.{needs}
 use Rattle.journal.proofs.delay_us.Statement.{statement}
@@ -22,16 +22,19 @@ refuse-requires c κs = search needs
 
 returns : tie.Need-returns
 returns c =
-    let none = sym (c .before .before .before .get-hclk-freq .ensures) ∙ c .before .enum-told .given .1 in
-    step-as (delay-unread _ _ none) (omega arith) (c .refuse .ensures .0 _, c .refuse .ensures .1)
+    let read : tie.After-get-hclk-freq = search in
+    let unread = sym (read .get-hclk-freq .ensures) ∙ c .before .enum-told .given .1 in
+    does-as (delay-unread _ _ unread) (omega arith) (beside (c .refuse .ensures))
 
 mul-write : tie.Need-mul-write
 mul-write c = search needs
 
 cycles-requires : tie.Need-cycles-requires
 cycles-requires c κs =
-    let start = c .before .before .before .before .before .before .before in
-    let reads = sym (c .before .before .before .before .get-hclk-freq .ensures) ∙ c .before .before .f .given .1 in
+    let start : tie.Start = search in
+    let read : tie.After-get-hclk-freq = search in
+    let told : tie.After-f = search in
+    let reads = sym (read .get-hclk-freq .ensures) ∙ told .f .given .1 in
     (most-at (subst (Most 384000000) reads (most-hclk _ (start .pre .0 .encodable))), start .pre .1)
 
 add-write : tie.Need-add-write
@@ -45,8 +48,12 @@ same-length c = search needs
 
 returns-2 : tie.Need-returns-2
 returns-2 c =
-    let reads = sym (c .before .before .before .before .before .before .before .before .get-hclk-freq .ensures) ∙ c .before .before .before .before .before .before .f .given .1 in
-    step-as (λ r q. rw (c .before .before .before .cycles .ensures .0) (delay-reads _ _ _ reads r q)) (omega arith) (c .before .before .write .ensures)
+    let read : tie.After-get-hclk-freq = search in
+    let told : tie.After-f = search in
+    let counted : tie.After-cycles = search in
+    let written : tie.After-write = search in
+    let reads = sym (read .get-hclk-freq .ensures) ∙ told .f .given .1 in
+    does-as (λ r q. rw (counted .cycles .ensures .0) (delay-reads _ _ _ reads r q)) (omega arith) (written .write .ensures)
 
 pub delay-us-spec : {M : Type 1} → statement M
 delay-us-spec =

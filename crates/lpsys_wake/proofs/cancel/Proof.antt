@@ -12,6 +12,7 @@ use Rattle.journal.specs.Run.{Run}
 use Rattle.journal.specs.Machine.{machineOf}
 use Rattle.journal.proofs.Reached.{ran-as, ran-then, ran-idle}
 use Rattle.lpsys_wake.specs.Wake.{cancel}
+use Rattle.journal.proofs.Does.{clauses}
 use borrow.Author.Needs.{needs}
 use Rattle.lpsys_wake.proofs.cancel.Statement.{statement}
 use Rattle.lpsys_wake.proofs.cancel.Tie as tie
@@ -21,7 +22,7 @@ count-down-requires c κs = search needs
 
 store-requires : tie.Need-store-requires
 unfolding fitsRegister isWithin wordBytes largest
-store-requires c κs = (record { room = omega (arith, c .before .before .before .before .before .pre .room, c .before .before .count-down .ensures .1 .0 .room); encodable = c .before .before .count-down .ensures .1 .0 .encodable }, (search needs, refl))
+store-requires c κs = (record { room = omega (arith, c .before .before .before .before .before .pre .room, c .before .before .count-down .ensures .1 .0 .room); encodable = c .before .before .count-down .ensures .1 .0 .encodable; answers = tt }, (search needs, refl))
 
 same-length : tie.Need-same-length
 same-length c = search needs
@@ -30,8 +31,8 @@ returns : tie.Need-returns
 unfolding cancel
 returns c =
     let one : (r : Run) → c .before .before .before .before .before .before .before .before .args .m ≡ machineOf r → eqb (r .head .«wake_count») 1 ≡ true = λ r q. ap (λ (w : Machine). eqb (w .head .«wake_count») 1) (sym q) ∙ eq-eqb _ _ (c .before .before .before .before .if1 .taken) in (
-      ran-as (λ r q. simp (one r q)) (ran-then (c .before .before .before .before .before .count-down .ensures .0 _) (c .before .before .store .ensures .0)),
-      record { room = omega (arith, c .before .before .before .before .before .count-down .ensures .1 .0 .room, c .before .before .store .ensures .1 .0 .room); encodable = c .before .before .store .ensures .1 .0 .encodable },
+      ran-as (λ r q. simp (one r q)) (ran-then (c .before .before .before .before .before .count-down .ensures .0 _) (clauses (c .before .before .store .ensures) .0)),
+      record { room = omega (arith, c .before .before .before .before .before .count-down .ensures .1 .0 .room, clauses (c .before .before .store .ensures) .1 .0 .room); encodable = clauses (c .before .before .store .ensures) .1 .0 .encodable },
     )
 
 returns-2 : tie.Need-returns-2

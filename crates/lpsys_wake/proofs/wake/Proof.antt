@@ -2,6 +2,7 @@
 use native.Mathlib.Omega.{arith}
 use Rattle.journal.proofs.Reached.{ran-then}
 use Rattle.lpsys_wake.specs.Wake.{wake}
+use Rattle.journal.proofs.Does.{clauses, clauses-taking}
 use borrow.Author.Needs.{needs}
 use Rattle.lpsys_wake.proofs.wake.Statement.{statement}
 use Rattle.lpsys_wake.proofs.wake.Tie as tie
@@ -24,8 +25,8 @@ same-length c = search needs
 returns : tie.Need-returns
 unfolding wake
 returns c = (
-  ran-then (ran-then (ran-then (c .before .before .before .before .before .before .before .before .before .before .before .wake-first .ensures .0) (c .before .before .before .before .before .before .before .delay-us .ensures .0)) (c .before .before .before .wait-for .ensures .0)) (c .count-up .ensures .0 _),
-  record { room = omega (arith, c .before .before .before .before .before .before .before .before .before .before .before .wake-first .ensures .1 .0 .room, c .before .before .before .before .before .before .before .delay-us .ensures .1 .0 .room, c .before .before .before .wait-for .ensures .1 .0 .room, c .count-up .ensures .1 .0 .room); encodable = c .count-up .ensures .1 .0 .encodable },
+  ran-then (ran-then (ran-then (c .before .before .before .before .before .before .before .before .before .before .before .wake-first .ensures .0) (clauses (c .before .before .before .before .before .before .before .delay-us .ensures) .0)) (clauses-taking (c .before .before .before .wait-for .ensures) .0)) (c .count-up .ensures .0 _),
+  record { room = omega (arith, c .before .before .before .before .before .before .before .before .before .before .before .wake-first .ensures .1 .0 .room, clauses (c .before .before .before .before .before .before .before .delay-us .ensures) .1 .0 .room, clauses-taking (c .before .before .before .wait-for .ensures) .1 .0 .room, c .count-up .ensures .1 .0 .room); encodable = c .count-up .ensures .1 .0 .encodable },
 )
 
 pub wake-spec : {M : Type 1} → statement M

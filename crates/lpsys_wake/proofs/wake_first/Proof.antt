@@ -6,6 +6,7 @@ use native.Mathlib.Omega.{arith}
 use mathlib.Core.Path.{refl}
 use Rattle.journal.proofs.Reached.{ran-then}
 use Rattle.lpsys_wake.specs.Wake.{wakeFirst}
+use Rattle.journal.proofs.Does.{clauses, clauses-taking}
 use borrow.Author.Needs.{needs}
 use Rattle.lpsys_wake.proofs.wake_first.Statement.{statement}
 use Rattle.lpsys_wake.proofs.wake_first.Tie as tie
@@ -26,8 +27,8 @@ same-length c = search needs
 returns : tie.Need-returns
 unfolding wakeFirst
 returns c = (
-  ran-then (ran-then (c .before .before .before .before .before .before .before .before .before .before .store .ensures .0) (c .before .before .before .before .before .before .delay-us .ensures .0)) (c .before .before .wait-for .ensures .0),
-  (record { room = omega (arith, c .before .before .before .before .before .before .before .before .before .before .store .ensures .1 .0 .room, c .before .before .before .before .before .before .delay-us .ensures .1 .0 .room, c .before .before .wait-for .ensures .1 .0 .room); encodable = c .before .before .wait-for .ensures .1 .0 .encodable }, c .before .before .wait-for .ensures .1 .1),
+  ran-then (ran-then (clauses (c .before .before .before .before .before .before .before .before .before .before .store .ensures) .0) (clauses (c .before .before .before .before .before .before .delay-us .ensures) .0)) (clauses-taking (c .before .before .wait-for .ensures) .0),
+  (record { room = omega (arith, clauses (c .before .before .before .before .before .before .before .before .before .before .store .ensures) .1 .0 .room, clauses (c .before .before .before .before .before .before .delay-us .ensures) .1 .0 .room, clauses-taking (c .before .before .wait-for .ensures) .1 .0 .room); encodable = clauses-taking (c .before .before .wait-for .ensures) .1 .0 .encodable }, clauses-taking (c .before .before .wait-for .ensures) .1 .1),
 )
 
 pub wake-first-spec : {M : Type 1} → statement M

@@ -14,7 +14,9 @@ first-ready-requires : tie.Need-first-ready-requires
 first-ready-requires c κs = search needs
 
 add-if2 : tie.Need-add-if2
-add-if2 c = omega (arith, found-most (c .before .before .before .before .before .args .answers .now) (c .before .before .before .before .before .args .m .taken) (c .first-ready .result) (poll (drop (c .before .before .before .before .before .args .m .taken) (c .before .before .before .before .before .args .answers .now))) (c .first-ready .ensures))
+add-if2 c =
+    let start : tie.Start = search in
+    omega (arith, found-most (start .args .answers .now) (start .args .m .taken) (c .first-ready .result) (poll (drop (start .args .m .taken) (start .args .answers .now))) (c .first-ready .ensures))
 
 mul-journal : tie.Need-mul-journal
 mul-journal c = search needs
@@ -26,7 +28,13 @@ add-journal : tie.Need-add-journal
 add-journal c = search needs
 
 sub-journal : tie.Need-sub-journal
-sub-journal c = omega (arith, found-hit (c .before .before .before .before .before .before .args .answers .now) (c .before .before .before .before .before .before .args .m .taken) (c .before .first-ready .result) (poll (drop (c .before .before .before .before .before .before .args .m .taken) (c .before .before .before .before .before .before .args .answers .now))) (c .before .first-ready .ensures) (omega arith) .0)
+sub-journal c =
+    let after-first-ready : tie.After-first-ready = search in
+    let start : tie.Start = search in
+    let found = after-first-ready .first-ready in
+    let a = start .args .answers .now in
+    let taken = start .args .m .taken in
+    omega (arith, found-hit a taken (found .result) (poll (drop taken a)) (found .ensures) (omega arith) .0)
 
 cast-journal : tie.Need-cast-journal
 cast-journal c = search needs
@@ -54,30 +62,34 @@ same-length c = search needs
 
 returns : tie.Need-returns
 returns c =
-    let start = c .before .before .before .before .before .before in
+    let after-first-ready : tie.After-first-ready = search in
+    let then1 : tie.Then1 = search in
+    let start : tie.Start = search in
     let m = start .args .m in
     let a = start .args .answers .now in
-    let i = c .before .first-ready .result in
-    let found = found-hit a (m .taken) i (poll (drop (m .taken) a)) (c .before .first-ready .ensures) (omega arith) in
+    let i = after-first-ready .first-ready .result in
+    let found = found-hit a (m .taken) i (poll (drop (m .taken) a)) (after-first-ready .first-ready .ensures) (omega arith) in
     let n = i + 1 - m .taken in
     let taken : m .taken + (n + 2) ≡ i + 3 = omega (arith, found .0) in
-    let count : n + 2 ≡ i + 3 - m .taken = omega (arith, found .0) in (
-      rw (taken, count) at (ran-measured m (start .args .journal .now) a n (c .before .before .if1 .taken) (search needs) (found .1) (omega (arith, found .0))),
-      (record { room = omega arith; encodable = start .pre .0 .encodable }, (omega arith, λ z. omega arith)),
-    )
+    let count : n + 2 ≡ i + 3 - m .taken = omega (arith, found .0) in
+    let ran = rw (taken, count) at (ran-measured m (start .args .journal .now) a n (then1 .if1 .taken) (search needs) (found .1) (omega (arith, found .0))) in
+    (record { ran = ran; room = omega arith; encodable = start .pre .encodable; answers = (omega arith, start .pre .answers .1) }, λ z. omega arith)
 
 returns-2 : tie.Need-returns-2
 returns-2 c =
-    let start = c .before .before .before .before .before .before in (
-      ran-unmeasured (start .args .m) _ (start .args .answers .now) (c .before .first-ready .result) (c .before .before .if1 .taken) (c .before .first-ready .ensures) (c .if2 .left),
-      (record { room = omega arith; encodable = start .pre .0 .encodable }, (omega arith, λ z. absurd (omega arith))),
-    )
+    let after-first-ready : tie.After-first-ready = search in
+    let then1 : tie.Then1 = search in
+    let start : tie.Start = search in
+    let found = after-first-ready .first-ready in
+    let ran = ran-unmeasured (start .args .m) _ (start .args .answers .now) (found .result) (then1 .if1 .taken) (found .ensures) (c .if2 .left) in
+    (record { ran = ran; room = omega arith; encodable = start .pre .encodable; answers = (omega arith, start .pre .answers .1) }, λ z. absurd (omega arith))
 
 returns-3 : tie.Need-returns-3
 unfolding measure
 returns-3 c =
-    let start = c .before .before .before .before in
-    (ran-ended _ (start .args .m) _ (c .if1 .left), (record { room = omega arith; encodable = start .pre .0 .encodable }, (search needs, λ z. absurd (c .if1 .left z))))
+    let start : tie.Start = search in
+    let ran = ran-ended _ (start .args .m) _ (c .if1 .left) in
+    (record { ran = ran; room = omega arith; encodable = start .pre .encodable; answers = start .pre .answers }, λ z. absurd (c .if1 .left z))
 
 pub measure-spec : {M : Type 1} → statement M
 measure-spec =

@@ -25,7 +25,13 @@ add-journal : tie.Need-add-journal
 add-journal c = search needs
 
 sub-journal : tie.Need-sub-journal
-sub-journal c = found-hit (c .before .before .before .before .before .before .args .answers .now) (c .before .before .before .before .before .before .args .m .taken) (c .before .first-ready .result) (poll (drop (c .before .before .before .before .before .before .args .m .taken) (c .before .before .before .before .before .before .args .answers .now))) (c .before .first-ready .ensures) (c .if2 .taken) .0
+sub-journal c =
+    let after-first-ready : tie.After-first-ready = search in
+    let start : tie.Start = search in
+    let found = after-first-ready .first-ready in
+    let a = start .args .answers .now in
+    let taken = start .args .m .taken in
+    found-hit a taken (found .result) (poll (drop taken a)) (found .ensures) (c .if2 .taken) .0
 
 cast-journal : tie.Need-cast-journal
 cast-journal c = search needs
@@ -53,31 +59,41 @@ same-length c = search needs
 
 returns : tie.Need-returns
 returns c =
-    let start = c .before .before .before .before .before .before in
+    let after-first-ready : tie.After-first-ready = search in
+    let then1 : tie.Then1 = search in
+    let start : tie.Start = search in
     let m = start .args .m in
     let a = start .args .answers .now in
-    let i = c .before .first-ready .result in
-    let found = found-hit a (m .taken) i (poll (drop (m .taken) a)) (c .before .first-ready .ensures) (c .if2 .taken) in
-    let count : m .taken + (i + 1 - m .taken) ≡ i + 1 = omega (arith, found .0) in (
-      rw count at (ran-hit m (start .args .journal .now) a (start .args .kind) (i + 1 - m .taken) (c .before .before .if1 .taken) (search needs) (found .1)),
-      (record { room = omega arith; encodable = start .pre .0 .encodable }, omega arith),
-    )
+    let i = after-first-ready .first-ready .result in
+    let found = found-hit a (m .taken) i (poll (drop (m .taken) a)) (after-first-ready .first-ready .ensures) (c .if2 .taken) in
+    let count : m .taken + (i + 1 - m .taken) ≡ i + 1 = omega (arith, found .0) in
+    record {
+      ran = rw count at (ran-hit m (start .args .journal .now) a (start .args .kind) (i + 1 - m .taken) (then1 .if1 .taken) (search needs) (found .1));
+      room = omega arith;
+      encodable = start .pre .0 .encodable;
+      answers = (omega arith, start .pre .0 .answers .1);
+    }
 
 returns-2 : tie.Need-returns-2
 returns-2 c =
-    let start = c .before .before .before .before .before .before in
+    let after-first-ready : tie.After-first-ready = search in
+    let then1 : tie.Then1 = search in
+    let start : tie.Start = search in
     let m = start .args .m in
     let a = start .args .answers .now in
-    let found = found-dry a (m .taken) (c .before .first-ready .result) (poll (drop (m .taken) a)) (c .before .first-ready .ensures) (c .if2 .left) in (
-      rw (found .0) (ran-dry m _ a (start .args .kind) (c .before .before .if1 .taken) (found .1)),
-      (record { room = omega arith; encodable = start .pre .0 .encodable }, omega arith),
-    )
+    let found = found-dry a (m .taken) (after-first-ready .first-ready .result) (poll (drop (m .taken) a)) (after-first-ready .first-ready .ensures) (c .if2 .left) in
+    record {
+      ran = rw (found .0) (ran-dry m _ a (start .args .kind) (then1 .if1 .taken) (found .1));
+      room = omega arith;
+      encodable = start .pre .0 .encodable;
+      answers = (omega arith, start .pre .0 .answers .1);
+    }
 
 returns-3 : tie.Need-returns-3
 unfolding wait
 returns-3 c =
-    let start = c .before .before .before .before in
-    (ran-ended _ (start .args .m) _ (c .if1 .left), (record { room = omega arith; encodable = start .pre .0 .encodable }, search needs))
+    let start : tie.Start = search in
+    record { ran = ran-ended _ (start .args .m) _ (c .if1 .left); room = omega arith; encodable = start .pre .0 .encodable; answers = start .pre .0 .answers }
 
 pub wait-for-spec : {M : Type 1} → statement M
 wait-for-spec =

@@ -4,6 +4,7 @@ use mathlib.Core.Path.{refl}
 use borrow.Author.Tests.{lt-ltb, le-ltb}
 use Rattle.journal.proofs.Reached.{ran-idle}
 use Rattle.calibration.specs.measure.{judged}
+use Rattle.journal.proofs.Does.{clauses-beside}
 use borrow.Author.Needs.{needs}
 use Rattle.calibration.proofs.measure.judged.Statement.{statement}
 use Rattle.calibration.proofs.measure.judged.Tie as tie
@@ -13,7 +14,7 @@ refuse-requires c κs = search needs
 
 returns : tie.Need-returns
 unfolding judged
-returns c = simp (lt-ltb 160 (c .before .before .args .diff) (omega (arith, c .before .if1 .taken))) (c .refuse .ensures)
+returns c = simp (lt-ltb 160 (c .before .before .args .diff) (omega (arith, c .before .if1 .taken))) (clauses-beside (c .refuse .ensures))
 
 returns-2 : tie.Need-returns-2
 unfolding judged

@@ -8,6 +8,7 @@ use Rattle.journal.proofs.Reached.{ran-then}
 use Rattle.journal.proofs.Present.{ran-store-stop}
 use Rattle.calibration.specs.measure.{measurement}
 use Rattle.calibration.proofs.measure.Laws.{trim-fits}
+use Rattle.journal.proofs.Does.{clauses}
 use borrow.Author.Needs.{needs}
 use Rattle.calibration.proofs.measure.measurement.Statement.{statement}
 use Rattle.calibration.proofs.measure.measurement.Tie as tie
@@ -23,20 +24,19 @@ unfolding fitsRegister isWithin wordBytes largest
 store-requires-2 c κs = (search needs, (search needs, refl))
 
 measure-requires : tie.Need-measure-requires
-measure-requires c κs = (
-  record {
-    room = omega (arith, c .before .before .before .before .before .before .before .before .before .before .before .before .before .before .before .pre .0 .room, c .before .before .before .before .before .before .before .before .before .before .before .store .ensures .1 .0 .room, c .before .before .before .before .before .before .before .delay-us .ensures .1 .0 .room, c .before .before .before .store2 .ensures .1 .0 .room, c .before .before .before .before .before .before .before .before .before .before .before .store .kept .1 .0, c .before .before .before .before .before .before .before .delay-us .kept .1 .0, c .before .before .before .store2 .kept .1 .0);
-    encodable = c .before .before .before .store2 .ensures .1 .0 .encodable;
-  },
-  omega (arith, c .before .before .before .before .before .before .before .before .before .before .before .before .before .before .before .pre .1 .1, c .before .before .before .before .before .before .before .before .before .before .before .store .ensures .1 .1, c .before .before .before .before .before .before .before .delay-us .ensures .1 .1, c .before .before .before .store2 .ensures .1 .1),
-)
+measure-requires c κs = record {
+  room = omega (arith, c .before .before .before .before .before .before .before .before .before .before .before .before .before .before .before .pre .0 .room, clauses (c .before .before .before .before .before .before .before .before .before .before .before .store .ensures) .1 .0 .room, clauses (c .before .before .before .before .before .before .before .delay-us .ensures) .1 .0 .room, clauses (c .before .before .before .store2 .ensures) .1 .0 .room, c .before .before .before .before .before .before .before .before .before .before .before .store .kept .1 .0, c .before .before .before .before .before .before .before .delay-us .kept .1 .0, c .before .before .before .store2 .kept .1 .0);
+  encodable = clauses (c .before .before .before .store2 .ensures) .1 .0 .encodable;
+  answers = (omega (arith, c .before .before .before .before .before .before .before .before .before .before .before .before .before .before .before .pre .1 .1, clauses (c .before .before .before .before .before .before .before .before .before .before .before .store .ensures) .1 .1, clauses (c .before .before .before .before .before .before .before .delay-us .ensures) .1 .1, clauses (c .before .before .before .store2 .ensures) .1 .1), c .before .before .before .before .before .before .before .before .before .before .before .before .before .before .before .pre .1 .1 .1);
+}
 
 store-requires-3 : tie.Need-store-requires-3
 unfolding fitsRegister isWithin wordBytes largest
 store-requires-3 c κs = (
   record {
-    room = omega (arith, c .before .before .before .before .before .before .before .before .before .before .before .before .before .before .before .before .before .before .before .pre .0 .room, c .before .before .before .before .before .before .before .before .before .before .before .before .before .before .before .store .ensures .1 .0 .room, c .before .before .before .before .before .before .before .before .before .before .before .delay-us .ensures .1 .0 .room, c .before .before .before .before .before .before .before .store2 .ensures .1 .0 .room, c .before .before .before .measure .ensures .1 .0 .room, c .before .before .before .before .before .before .before .before .before .before .before .before .before .before .before .store .kept .1 .0, c .before .before .before .before .before .before .before .before .before .before .before .delay-us .kept .1 .0, c .before .before .before .before .before .before .before .store2 .kept .1 .0, c .before .before .before .measure .kept .1 .0);
-    encodable = c .before .before .before .measure .ensures .1 .0 .encodable;
+    room = omega (arith, c .before .before .before .before .before .before .before .before .before .before .before .before .before .before .before .before .before .before .before .pre .0 .room, clauses (c .before .before .before .before .before .before .before .before .before .before .before .before .before .before .before .store .ensures) .1 .0 .room, clauses (c .before .before .before .before .before .before .before .before .before .before .before .delay-us .ensures) .1 .0 .room, clauses (c .before .before .before .before .before .before .before .store2 .ensures) .1 .0 .room, c .before .before .before .measure .ensures .0 .room, c .before .before .before .before .before .before .before .before .before .before .before .before .before .before .before .store .kept .1 .0, c .before .before .before .before .before .before .before .before .before .before .before .delay-us .kept .1 .0, c .before .before .before .before .before .before .before .store2 .kept .1 .0, c .before .before .before .measure .kept .1 .0);
+    encodable = c .before .before .before .measure .ensures .0 .encodable;
+    answers = tt;
   },
   (search needs, refl),
 )
@@ -52,12 +52,12 @@ returns c =
     let on = c .before .before .before .before .before .before .before .before .before .before .store2 in
     let measure = c .before .before .before .before .before .before .measure in
     let off = c .before .before .store3 in
-    let taken : off .result .taken ≡ measure .result .taken = off .ensures .1 .1 in
-    let stop = ran-store-stop 21 0 (off .ensures .0) (omega (arith, c .before .before .before .before .before .before .before .before .before .before .before .before .before .before .before .before .before .before .before .before .before .before .pre .0 .room, store .ensures .1 .0 .room, delay .ensures .1 .0 .room, on .ensures .1 .0 .room, measure .ensures .1 .0 .room, store .kept .1 .0, delay .kept .1 .0, on .kept .1 .0, measure .kept .1 .0)) in (
-      ran-then (ran-then (ran-then (ran-then (store .ensures .0) (delay .ensures .0)) (on .ensures .0)) (measure .ensures .0)) (off .ensures .0),
+    let taken : off .result .taken ≡ measure .result .taken = off .ensures .answers in
+    let stop = ran-store-stop 21 0 (off .ensures .ran) (omega (arith, c .before .before .before .before .before .before .before .before .before .before .before .before .before .before .before .before .before .before .before .before .before .before .pre .0 .room, store .ensures .room, delay .ensures .room, on .ensures .room, measure .ensures .0 .room, store .kept .1 .0, delay .kept .1 .0, on .kept .1 .0, measure .kept .1 .0)) in (
+      ran-then (ran-then (ran-then (ran-then (store .ensures .ran) (delay .ensures .ran)) (on .ensures .ran)) (measure .ensures .0 .ran)) (off .ensures .ran),
       (
-        record { room = omega (arith, store .ensures .1 .0 .room, delay .ensures .1 .0 .room, on .ensures .1 .0 .room, measure .ensures .1 .0 .room, off .ensures .1 .0 .room); encodable = off .ensures .1 .0 .encodable },
-        (rw taken (measure .ensures .1 .1 .0), λ z. rw taken (measure .ensures .1 .1 .1 (sym stop ∙ z))),
+        record { room = omega (arith, store .ensures .room, delay .ensures .room, on .ensures .room, measure .ensures .0 .room, off .ensures .room); encodable = off .ensures .encodable },
+        (rw taken (measure .ensures .0 .answers .0), λ z. rw taken (measure .ensures .1 (sym stop ∙ z))),
       ),
     )
 

@@ -6,6 +6,8 @@ use Rattle.record.proofs.Refusals.{only-test}
 use Rattle.call.proofs.Ending.{call-unadmitted, call-ran, call-encodable, call-bytes}
 use Rattle.call.proofs.Admitting.{journal-room, started}
 use Rattle.call.proofs.store.Tests.{test-refused}
+use Rattle.journal.specs.Machine.{none}
+use Rattle.journal.proofs.Does.{clauses, lent-as}
 use borrow.Author.Needs.{needs}
 use Rattle.call.proofs.store.store_once.Statement.{statement}
 use Rattle.call.proofs.store.store_once.Tie as tie
@@ -41,10 +43,10 @@ start-requires : tie.Need-start-requires
 start-requires c κs = search needs
 
 store-requires : tie.Need-store-requires
-store-requires c κs = (started 1 _ _ _ (c .before .start .ensures) (call-encodable (c .before .before .before .before .before .before .admit .ensures) (c .before .before .before .before .if1 .left)) (omega arith) (journal-room (c .before .before .before .before .before .before .before .before .before .before .before .args .buffer .now) (c .before .before .before .before .before .before .before .before .before .before .before .args .journal .now) (c .before .before .before .before .before .before .admit .ensures) (c .before .before .before .before .if1 .left)), (search needs, c .before .before .before .before .before .before .before .before .before .before .before .pre .1 (c .before .before .before .if2 .left)))
+store-requires c κs = (lent-as none (started 1 _ _ _ (c .before .start .ensures) (call-encodable (c .before .before .before .before .before .before .admit .ensures) (c .before .before .before .before .if1 .left)) (omega arith) (journal-room (c .before .before .before .before .before .before .before .before .before .before .before .args .buffer .now) (c .before .before .before .before .before .before .before .before .before .before .before .args .journal .now) (c .before .before .before .before .before .before .admit .ensures) (c .before .before .before .before .if1 .left))) tt, (search needs, c .before .before .before .before .before .before .before .before .before .before .before .pre .1 (c .before .before .before .if2 .left)))
 
 finish-requires : tie.Need-finish-requires
-finish-requires c κs = (c .before .before .before .store .ensures .1 .0 .encodable, call-bytes (c .before .before .before .before .before .before .before .before .before .before .admit .ensures) (c .before .before .before .before .before .before .before .before .if1 .left))
+finish-requires c κs = (clauses (c .before .before .before .store .ensures) .1 .0 .encodable, call-bytes (c .before .before .before .before .before .before .before .before .before .before .admit .ensures) (c .before .before .before .before .before .before .before .before .if1 .left))
 
 same-length-5 : tie.Need-same-length-5
 same-length-5 c = search needs
@@ -53,7 +55,7 @@ same-length-6 : tie.Need-same-length-6
 same-length-6 c = search needs
 
 returns-3 : tie.Need-returns-3
-returns-3 c = call-ran (c .before .before .before .before .before .before .before .before .before .before .before .before .before .admit .ensures) (c .before .before .before .before .before .before .before .before .before .before .before .before .before .before .before .before .before .before .args .refusal ∷ []) _ _ _ _ _ _ _ _ (c .before .before .before .before .before .before .before .before .before .before .before .if1 .left) (only-test _ ∙ c .before .before .before .before .before .before .before .before .before .before .if2 .left) (c .before .before .before .before .before .before .before .before .start .ensures) (c .before .before .before .before .before .before .store .ensures .0) (c .before .before .finish .ensures)
+returns-3 c = call-ran (c .before .before .before .before .before .before .before .before .before .before .before .before .before .admit .ensures) (c .before .before .before .before .before .before .before .before .before .before .before .before .before .before .before .before .before .before .args .refusal ∷ []) _ _ _ _ _ _ _ _ (c .before .before .before .before .before .before .before .before .before .before .before .if1 .left) (only-test _ ∙ c .before .before .before .before .before .before .before .before .before .before .if2 .left) (c .before .before .before .before .before .before .before .before .start .ensures) (clauses (c .before .before .before .before .before .before .store .ensures) .0) (c .before .before .finish .ensures)
 
 pub store-once-spec : {M : Type 1} → statement M
 store-once-spec =

@@ -14,6 +14,8 @@ use Rattle.call.specs.clocks.{withAudioOf}
 use Rattle.call.specs.with_plan.{headAfter}
 use Rattle.clock_config.specs.reconfigure.{reconfigureCall, reconfigureClocks}
 use Rattle.call.proofs.with_plan.Ending.{plan-unadmitted, plan-refused, plan-ran}
+use Rattle.journal.specs.Machine.{taking}
+use Rattle.journal.proofs.Does.{clauses-taking, lent-as}
 use borrow.Author.Needs.{needs}
 use Rattle.clock_config.proofs.reconfigure.reconfigure_sysclk.Statement.{statement}
 use Rattle.clock_config.proofs.reconfigure.reconfigure_sysclk.Tie as tie
@@ -64,13 +66,13 @@ config-hcpu-dvfs-requires c κs =
     let room = answers-room (start .args .buffer .now) (start .args .journal .now) (start .args .answers .now) (c .before .before .before .before .before .before .before .before .before .admit-with-answers .ensures) (c .before .before .before .before .before .before .before .if1 .left) in
     let planned = c .before .before .before .before .before .before .admit .ensures in
     let w = c .before .before .before .before .if2 .left in
-    (started 16 _ _ _ (c .before .start .ensures) (call-encodable (c .before .before .before .before .before .before .before .before .before .admit-with-answers .ensures) (c .before .before .before .before .before .before .before .if1 .left)) (omega arith) (room .0), ((rw (c .before .start .ensures) (omega arith), room .1), (planned .legal-is w, ap (λ (t : Target). t .hclk .0) (planned .target-is w))))
+    (lent-as (taking _) (started 16 _ _ _ (c .before .start .ensures) (call-encodable (c .before .before .before .before .before .before .before .before .before .admit-with-answers .ensures) (c .before .before .before .before .before .before .before .if1 .left)) (omega arith) (room .0)) (rw (c .before .start .ensures) (omega arith), room .1), (planned .legal-is w, ap (λ (t : Target). t .hclk .0) (planned .target-is w)))
 
 clocks-beside-requires : tie.Need-clocks-beside-requires
 clocks-beside-requires c κs = search needs
 
 finish-requires : tie.Need-finish-requires
-finish-requires c κs = (c .before .before .before .before .before .config-hcpu-dvfs .ensures .1 .0 .encodable, call-bytes (c .before .before .before .before .before .before .before .before .before .before .before .before .before .before .before .admit-with-answers .ensures) (c .before .before .before .before .before .before .before .before .before .before .before .before .before .if1 .left))
+finish-requires c κs = (clauses-taking (c .before .before .before .before .before .config-hcpu-dvfs .ensures) .1 .0 .encodable, call-bytes (c .before .before .before .before .before .before .before .before .before .before .before .before .before .before .before .admit-with-answers .ensures) (c .before .before .before .before .before .before .before .before .before .before .before .before .before .if1 .left))
 
 same-length-5 : tie.Need-same-length-5
 same-length-5 c = search needs
@@ -84,7 +86,7 @@ returns-3 c =
     let start = c .before .before .before .before .before .before .before .before .before .before .before .before .before .before .before .before .before .before .before .before .before .before .before .before .before in
     let admitted = c .before .before .before .before .before .before .before .before .before .before .before .before .before .before .before .before .before .before .admit-with-answers .ensures in
     let planned = c .before .before .before .before .before .before .before .before .before .before .before .before .before .before .before .admit .ensures in
-    plan-ran (start .args .plan .now) (start .args .buffer .now) (start .args .journal .now) (start .args .answers .now) admitted planned (c .before .before .before .before .before .before .before .before .before .before .before .before .before .before .before .before .if1 .left) (c .before .before .before .before .before .before .before .before .before .before .before .before .before .if2 .left) (λ (p : Plan). toPlan p (start .args .answers .now)) 0 _ _ _ _ _ _ (start .args .clocks .now) (λ (h : Head). withAudioOf (start .args .clocks .now) (clocksOf h)) (c .before .before .before .before .before .before .before .before .before .before .start .ensures) (c .before .before .before .before .before .before .before .before .config-hcpu-dvfs .ensures .0) (c .before .before .finish .ensures) (c .before .before .before .before .clocks-beside .ensures)
+    plan-ran (start .args .plan .now) (start .args .buffer .now) (start .args .journal .now) (start .args .answers .now) admitted planned (c .before .before .before .before .before .before .before .before .before .before .before .before .before .before .before .before .if1 .left) (c .before .before .before .before .before .before .before .before .before .before .before .before .before .if2 .left) (λ (p : Plan). toPlan p (start .args .answers .now)) 0 _ _ _ _ _ _ (start .args .clocks .now) (λ (h : Head). withAudioOf (start .args .clocks .now) (clocksOf h)) (c .before .before .before .before .before .before .before .before .before .before .start .ensures) (clauses-taking (c .before .before .before .before .before .before .before .before .config-hcpu-dvfs .ensures) .0) (c .before .before .finish .ensures) (c .before .before .before .before .clocks-beside .ensures)
 
 pub reconfigure-sysclk-spec : {M : Type 1} → statement M
 reconfigure-sysclk-spec =

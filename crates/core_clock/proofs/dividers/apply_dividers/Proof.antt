@@ -15,7 +15,10 @@ same-length c = search needs
 
 returns : tie.Need-returns
 unfolding dividers
-returns c = simp (← c .before .before .before .before .dividers-word .ensures .0) (c .before .before .store .ensures)
+returns c =
+    let after-store : tie.After-store = search in
+    let after-dividers-word : tie.After-dividers-word = search in
+    simp (← after-dividers-word .dividers-word .ensures .0) (after-store .store .ensures)
 
 pub apply-dividers-spec : {M : Type 1} → statement M
 apply-dividers-spec =

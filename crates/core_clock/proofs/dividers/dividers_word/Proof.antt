@@ -18,7 +18,9 @@ word-requires : tie.Need-word-requires
 word-requires c κs = search needs
 
 returns : tie.Need-returns
-returns c = rw (c .word .ensures) (refl, dividers-fit (c .before .args .p) (c .before .pre))
+returns c =
+    let start : tie.Start = search in
+    rw (c .word .ensures) (refl, dividers-fit (start .args .p) (start .pre))
 
 pub dividers-word-spec : {M : Type 1} → statement M
 dividers-word-spec = tie.close (tie.spec cast-word cast-word-2 cast-word-3 word-requires returns)

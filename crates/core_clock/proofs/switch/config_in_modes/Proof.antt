@@ -1,6 +1,6 @@
 -- `core_clock::switch::config_in_modes` meets its contract: one step after the other. Assumes nothing.
 use native.Mathlib.Omega.{arith}
-use Rattle.journal.proofs.Steps.{both, then-quiet}
+use Rattle.journal.proofs.Does.{_then_, lent-after}
 use borrow.Author.Needs.{needs}
 use Rattle.core_clock.proofs.switch.config_in_modes.Statement.{statement}
 use Rattle.core_clock.proofs.switch.config_in_modes.Tie as tie
@@ -9,7 +9,10 @@ config-hcpu-dvfs-first-requires : tie.Need-config-hcpu-dvfs-first-requires
 config-hcpu-dvfs-first-requires c κs = search needs
 
 config-clock-requires : tie.Need-config-clock-requires
-config-clock-requires c κs = (search needs, ((omega (arith, c .before .before .before .config-hcpu-dvfs-first .ensures .1 .1, c .before .before .before .before .before .before .before .pre .1 .0 .0), c .before .before .before .before .before .before .before .pre .1 .0 .1), c .before .before .before .before .before .before .before .pre .1 .1))
+config-clock-requires c κs =
+    let after-first : tie.After-config-hcpu-dvfs-first = search in
+    let start : tie.Start = search in
+    (lent-after (omega arith) (start .pre .0) (after-first .config-hcpu-dvfs-first .ensures), start .pre .1)
 
 config-hcpu-dvfs-second-requires : tie.Need-config-hcpu-dvfs-second-requires
 config-hcpu-dvfs-second-requires c κs = search needs
@@ -18,7 +21,11 @@ same-length : tie.Need-same-length
 same-length c = search needs
 
 returns : tie.Need-returns
-returns c = then-quiet (both (c .before .before .before .before .before .before .before .before .before .before .config-hcpu-dvfs-first .ensures) (c .before .before .before .before .before .before .config-clock .ensures)) (c .before .before .config-hcpu-dvfs-second .ensures)
+returns c =
+    let after-config-hcpu-dvfs-second : tie.After-config-hcpu-dvfs-second = search in
+    let after-config-clock : tie.After-config-clock = search in
+    let after-config-hcpu-dvfs-first : tie.After-config-hcpu-dvfs-first = search in
+    after-config-hcpu-dvfs-first .config-hcpu-dvfs-first .ensures then after-config-clock .config-clock .ensures then after-config-hcpu-dvfs-second .config-hcpu-dvfs-second .ensures
 
 pub config-in-modes-spec : {M : Type 1} → statement M
 config-in-modes-spec =

@@ -23,7 +23,12 @@ word-requires : tie.Need-word-requires
 word-requires c κs = search needs
 
 returns : tie.Need-returns
-returns c = let codes = dll-codes (c .before .before .before .before .args .number) (c .before .before .before .before .args .t1) (c .before .before .before .before .pre .0) (c .before .before .before .before .pre .1 .0) (c .before .before .before .before .pre .1 .1) in simp (c .word .ensures, c .before .before .b .ensures, c .before .c .ensures) (refl, dll-fits _ 0 _ _ (c .before .before .before .before .pre .1 .0) (c .before .before .before .before .pre .1 .1) (omega arith) (codes .0) (codes .1))
+returns c =
+    let after-c : tie.After-c = search in
+    let after-b : tie.After-b = search in
+    let start : tie.Start = search in
+    let codes = dll-codes (start .args .number) (start .args .t1) (start .pre .0) (start .pre .1 .0) (start .pre .1 .1) in
+    simp (c .word .ensures, after-b .b .ensures, after-c .c .ensures) (refl, dll-fits _ 0 _ _ (start .pre .1 .0) (start .pre .1 .1) (omega arith) (codes .0) (codes .1))
 
 pub off-word-spec : {M : Type 1} → statement M
 off-word-spec =

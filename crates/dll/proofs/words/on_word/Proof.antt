@@ -13,7 +13,10 @@ word-requires : tie.Need-word-requires
 word-requires c κs = search needs
 
 returns : tie.Need-returns
-returns c = simp (c .word .ensures, c .before .if1 .taken) (refl, dll-fits _ 1 1 _ (c .before .before .pre .0 .0) (c .before .before .pre .0 .1) (omega arith) (omega arith) (c .before .before .pre .1))
+returns c =
+    let then1 : tie.Then1 = search in
+    let start : tie.Start = search in
+    simp (c .word .ensures, then1 .if1 .taken) (refl, dll-fits _ 1 1 _ (start .pre .0 .0) (start .pre .0 .1) (omega arith) (omega arith) (start .pre .1))
 
 cast-word-2 : tie.Need-cast-word-2
 cast-word-2 c = search needs
@@ -22,7 +25,10 @@ word-requires-2 : tie.Need-word-requires-2
 word-requires-2 c κs = search needs
 
 returns-2 : tie.Need-returns-2
-returns-2 c = simp (c .word2 .ensures, c .before .if1 .left) (refl, dll-fits _ 1 0 _ (c .before .before .pre .0 .0) (c .before .before .pre .0 .1) (omega arith) (omega arith) (c .before .before .pre .1))
+returns-2 c =
+    let else1 : tie.Else1 = search in
+    let start : tie.Start = search in
+    simp (c .word2 .ensures, else1 .if1 .left) (refl, dll-fits _ 1 0 _ (start .pre .0 .0) (start .pre .0 .1) (omega arith) (omega arith) (start .pre .1))
 
 pub on-word-spec : {M : Type 1} → statement M
 on-word-spec =

@@ -1,7 +1,7 @@
 -- `dvfs_hpsys::switch::switch_hcpu_dvfs_d2s_first` meets its contract: one step after the other. Assumes nothing.
-use Rattle.journal.proofs.Steps.{both-quiet}
 use Rattle.dvfs_hpsys.specs.switch.{d2sFirst}
 use Rattle.dvfs_hpsys.proofs.volts.Rows.{supply-fits}
+use Rattle.journal.proofs.Does.{_then_}
 use borrow.Author.Needs.{needs}
 use Rattle.dvfs_hpsys.proofs.switch.switch_hcpu_dvfs_d2s_first.Statement.{statement}
 use Rattle.dvfs_hpsys.proofs.switch.switch_hcpu_dvfs_d2s_first.Tie as tie
@@ -23,7 +23,12 @@ same-length c = search needs
 
 returns : tie.Need-returns
 unfolding d2sFirst
-returns c = both-quiet (both-quiet (both-quiet (c .before .before .before .before .before .before .before .before .before .before .before .before .before .before .config-hcpu-sx-mode-volt .ensures) (c .before .before .before .before .before .before .before .before .before .before .store .ensures)) (c .before .before .before .before .before .before .delay-us .ensures)) (c .before .before .store-timing .ensures)
+returns c =
+    let after-store-timing : tie.After-store-timing = search in
+    let after-delay-us : tie.After-delay-us = search in
+    let after-store : tie.After-store = search in
+    let after-config-hcpu-sx-mode-volt : tie.After-config-hcpu-sx-mode-volt = search in
+    after-config-hcpu-sx-mode-volt .config-hcpu-sx-mode-volt .ensures then (after-store .store .ensures) then (after-delay-us .delay-us .ensures) then after-store-timing .store-timing .ensures
 
 pub switch-hcpu-dvfs-d2s-first-spec : {M : Type 1} → statement M
 switch-hcpu-dvfs-d2s-first-spec =

@@ -1,7 +1,7 @@
 -- `dvfs_hpsys::switch::switch_hcpu_dvfs_s2d_second` meets its contract: the timing, then the supply. Assumes nothing.
-use Rattle.journal.proofs.Steps.{both-quiet}
 use Rattle.dvfs_hpsys.specs.switch.{s2dSecond}
 use Rattle.dvfs_hpsys.proofs.volts.Rows.{supply-fits}
+use Rattle.journal.proofs.Does.{_then_}
 use borrow.Author.Needs.{needs}
 use Rattle.dvfs_hpsys.proofs.switch.switch_hcpu_dvfs_s2d_second.Statement.{statement}
 use Rattle.dvfs_hpsys.proofs.switch.switch_hcpu_dvfs_s2d_second.Tie as tie
@@ -17,7 +17,10 @@ same-length c = search needs
 
 returns : tie.Need-returns
 unfolding s2dSecond
-returns c = both-quiet (c .before .before .before .before .before .before .store-timing .ensures) (c .before .before .store .ensures)
+returns c =
+    let after-store : tie.After-store = search in
+    let after-store-timing : tie.After-store-timing = search in
+    after-store-timing .store-timing .ensures then (after-store .store .ensures)
 
 pub switch-hcpu-dvfs-s2d-second-spec : {M : Type 1} → statement M
 switch-hcpu-dvfs-s2d-second-spec =

@@ -1,6 +1,6 @@
 -- `dvfs_hpsys::switch::switch_hcpu_dvfs_s2s_first` meets its contract: the volts, then 250 us. Assumes nothing.
-use Rattle.journal.proofs.Steps.{both-quiet}
 use Rattle.dvfs_hpsys.specs.switch.{s2sFirst}
+use Rattle.journal.proofs.Does.{_then_}
 use borrow.Author.Needs.{needs}
 use Rattle.dvfs_hpsys.proofs.switch.switch_hcpu_dvfs_s2s_first.Statement.{statement}
 use Rattle.dvfs_hpsys.proofs.switch.switch_hcpu_dvfs_s2s_first.Tie as tie
@@ -16,7 +16,10 @@ same-length c = search needs
 
 returns : tie.Need-returns
 unfolding s2sFirst
-returns c = both-quiet (c .before .before .before .before .before .before .config-hcpu-sx-mode-volt .ensures) (c .before .before .delay-us .ensures)
+returns c =
+    let after-delay-us : tie.After-delay-us = search in
+    let after-config-hcpu-sx-mode-volt : tie.After-config-hcpu-sx-mode-volt = search in
+    after-config-hcpu-sx-mode-volt .config-hcpu-sx-mode-volt .ensures then (after-delay-us .delay-us .ensures)
 
 pub switch-hcpu-dvfs-s2s-first-spec : {M : Type 1} → statement M
 switch-hcpu-dvfs-s2s-first-spec =

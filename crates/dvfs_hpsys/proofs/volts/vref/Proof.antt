@@ -18,7 +18,10 @@ get-config-requires : tie.Need-get-config-requires
 get-config-requires c κs = search needs
 
 add-result : tie.Need-add-result
-add-result c = rw (c .before .get-config .ensures) (sum-fits (c .before .before .args .target))
+add-result c =
+    let after-get-config : tie.After-get-config = search in
+    let start : tie.Start = search in
+    rw (after-get-config .get-config .ensures) (sum-fits (start .args .target))
   where
     sum-fits : (t : HpsysDvfsMode) → SFits w8 (pos 11 +ℤ toZ w8 (ofZ w8 (rowOf t .«ldo_offset»)))
     sum-fits D0 = sfits-lit _
@@ -27,7 +30,10 @@ add-result c = rw (c .before .get-config .ensures) (sum-fits (c .before .before 
     sum-fits S1 = sfits-lit _
 
 cast-result : tie.Need-cast-result
-cast-result c = rw (c .before .get-config .ensures) (cast-fits (c .before .before .args .target))
+cast-result c =
+    let after-get-config : tie.After-get-config = search in
+    let start : tie.Start = search in
+    rw (after-get-config .get-config .ensures) (cast-fits (start .args .target))
   where
     cast-fits : (t : HpsysDvfsMode) →
         T (nonNeg (toZ w8 (ofZ w8 (pos 11 +ℤ toZ w8 (ofZ w8 (rowOf t .«ldo_offset»)))))) ×
@@ -39,7 +45,10 @@ cast-result c = rw (c .before .get-config .ensures) (cast-fits (c .before .befor
 
 returns : tie.Need-returns
 unfolding vrefOf
-returns c = rw (c .before .get-config .ensures) (same (c .before .before .args .target))
+returns c =
+    let after-get-config : tie.After-get-config = search in
+    let start : tie.Start = search in
+    rw (after-get-config .get-config .ensures) (same (start .args .target))
   where
     same : (t : HpsysDvfsMode) → natAbs (toZ w8 (ofZ w8 (pos 11 +ℤ toZ w8 (ofZ w8 (rowOf t .«ldo_offset»))))) ≡ vrefOf t
     same D0 = refl

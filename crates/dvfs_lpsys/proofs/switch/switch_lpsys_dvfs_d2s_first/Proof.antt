@@ -6,6 +6,7 @@ use native.Mathlib.Omega.{arith}
 use mathlib.Core.Path.{refl, _∙_}
 use Rattle.journal.proofs.Reached.{ran-then}
 use Rattle.dvfs_lpsys.specs.switch.{lpsysD2sFirst}
+use Rattle.journal.proofs.Does.{clauses}
 use borrow.Author.Needs.{needs}
 use Rattle.dvfs_lpsys.proofs.switch.switch_lpsys_dvfs_d2s_first.Statement.{statement}
 use Rattle.dvfs_lpsys.proofs.switch.switch_lpsys_dvfs_d2s_first.Tie as tie
@@ -33,8 +34,8 @@ same-length c = search needs
 returns : tie.Need-returns
 unfolding lpsysD2sFirst
 returns c = (
-  ran-then (ran-then (rw (c .before .before .before .before .before .before .before .before .before .before .before .before .before .get-config .ensures) at (c .before .before .before .before .before .before .before .before .before .before .store .ensures .0)) (c .before .before .before .before .before .before .store2 .ensures .0)) (c .before .before .delay-us .ensures .0),
-  (record { room = omega (arith, c .before .before .before .before .before .before .before .before .before .before .store .ensures .1 .0 .room, c .before .before .before .before .before .before .store2 .ensures .1 .0 .room, c .before .before .delay-us .ensures .1 .0 .room); encodable = c .before .before .delay-us .ensures .1 .0 .encodable }, c .before .before .delay-us .ensures .1 .1 ∙ (c .before .before .before .before .before .before .store2 .ensures .1 .1 ∙ c .before .before .before .before .before .before .before .before .before .before .store .ensures .1 .1)),
+  ran-then (ran-then (rw (c .before .before .before .before .before .before .before .before .before .before .before .before .before .get-config .ensures) at (clauses (c .before .before .before .before .before .before .before .before .before .before .store .ensures) .0)) (clauses (c .before .before .before .before .before .before .store2 .ensures) .0)) (clauses (c .before .before .delay-us .ensures) .0),
+  (record { room = omega (arith, clauses (c .before .before .before .before .before .before .before .before .before .before .store .ensures) .1 .0 .room, clauses (c .before .before .before .before .before .before .store2 .ensures) .1 .0 .room, clauses (c .before .before .delay-us .ensures) .1 .0 .room); encodable = clauses (c .before .before .delay-us .ensures) .1 .0 .encodable }, clauses (c .before .before .delay-us .ensures) .1 .1 ∙ (clauses (c .before .before .before .before .before .before .store2 .ensures) .1 .1 ∙ clauses (c .before .before .before .before .before .before .before .before .before .before .store .ensures) .1 .1)),
 )
 
 pub switch-lpsys-dvfs-d2s-first-spec : {M : Type 1} → statement M

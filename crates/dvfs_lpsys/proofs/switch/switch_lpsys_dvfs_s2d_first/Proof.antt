@@ -5,6 +5,7 @@ use Rattle.register.specs.Codes.{fitsRegister, largest}
 use native.Mathlib.Omega.{arith}
 use mathlib.Core.Path.{refl, _∙_}
 use Rattle.dvfs_lpsys.specs.switch.{lpsysS2dFirst}
+use Rattle.journal.proofs.Does.{clauses}
 use borrow.Author.Needs.{needs}
 use Rattle.dvfs_lpsys.proofs.switch.switch_lpsys_dvfs_s2d_first.Statement.{statement}
 use Rattle.dvfs_lpsys.proofs.switch.switch_lpsys_dvfs_s2d_first.Tie as tie
@@ -24,7 +25,7 @@ same-length c = search needs
 
 returns : tie.Need-returns
 unfolding lpsysS2dFirst
-returns c = rw (c .before .before .before .before .before .get-config .ensures) at (c .before .before .store .ensures)
+returns c = rw (c .before .before .before .before .before .get-config .ensures) at (clauses (c .before .before .store .ensures))
 
 pub switch-lpsys-dvfs-s2d-first-spec : {M : Type 1} → statement M
 switch-lpsys-dvfs-s2d-first-spec = tie.close (tie.spec get-config-requires cast-store store-requires same-length returns)

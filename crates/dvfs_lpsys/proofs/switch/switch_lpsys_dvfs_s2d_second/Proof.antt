@@ -6,6 +6,7 @@ use native.Mathlib.Omega.{arith}
 use mathlib.Core.Path.{refl, _∙_}
 use Rattle.journal.proofs.Reached.{ran-then}
 use Rattle.dvfs_lpsys.specs.switch.{lpsysS2dSecond}
+use Rattle.journal.proofs.Does.{clauses}
 use borrow.Author.Needs.{needs}
 use Rattle.dvfs_lpsys.proofs.switch.switch_lpsys_dvfs_s2d_second.Statement.{statement}
 use Rattle.dvfs_lpsys.proofs.switch.switch_lpsys_dvfs_s2d_second.Tie as tie
@@ -27,8 +28,8 @@ same-length c = search needs
 returns : tie.Need-returns
 unfolding lpsysS2dSecond
 returns c = (
-  ran-then (rw (c .before .before .before .before .before .before .before .before .get-config .ensures) at (c .before .before .before .before .before .before .store .ensures .0)) (c .before .before .store2 .ensures .0),
-  (record { room = omega (arith, c .before .before .before .before .before .before .store .ensures .1 .0 .room, c .before .before .store2 .ensures .1 .0 .room); encodable = c .before .before .store2 .ensures .1 .0 .encodable }, c .before .before .store2 .ensures .1 .1 ∙ c .before .before .before .before .before .before .store .ensures .1 .1),
+  ran-then (rw (c .before .before .before .before .before .before .before .before .get-config .ensures) at (clauses (c .before .before .before .before .before .before .store .ensures) .0)) (clauses (c .before .before .store2 .ensures) .0),
+  (record { room = omega (arith, clauses (c .before .before .before .before .before .before .store .ensures) .1 .0 .room, clauses (c .before .before .store2 .ensures) .1 .0 .room); encodable = clauses (c .before .before .store2 .ensures) .1 .0 .encodable }, clauses (c .before .before .store2 .ensures) .1 .1 ∙ clauses (c .before .before .before .before .before .before .store .ensures) .1 .1),
 )
 
 pub switch-lpsys-dvfs-s2d-second-spec : {M : Type 1} → statement M

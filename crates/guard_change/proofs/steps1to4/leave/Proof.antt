@@ -1,7 +1,7 @@
 -- `guard_change::steps1to4::leave` meets its contract: one step after the other. Assumes nothing.
 use native.Mathlib.Omega.{arith}
 use Rattle.plan.proofs.Legal.{legal-stages}
-use Rattle.journal.proofs.Steps.{both, both-quiet}
+use Rattle.journal.proofs.Does.{_then_, lent-after}
 use borrow.Author.Needs.{needs}
 use Rattle.guard_change.proofs.steps1to4.leave.Statement.{statement}
 use Rattle.guard_change.proofs.steps1to4.leave.Tie as tie
@@ -16,13 +16,24 @@ to-hxt48-requires : tie.Need-to-hxt48-requires
 to-hxt48-requires c κs = search needs
 
 configure-dll1-requires : tie.Need-configure-dll1-requires
-configure-dll1-requires c κs = (record { room = omega (arith, c .before .before .before .to-hxt48 .ensures .1 .0 .room, c .before .before .before .before .before .before .before .leave-dll1 .ensures .1 .0 .room, c .before .before .before .before .before .before .before .before .before .before .before .raise .ensures .1 .0 .room, c .before .before .before .before .before .before .before .before .before .before .before .before .before .before .before .pre .0 .room); encodable = c .before .before .before .to-hxt48 .ensures .1 .0 .encodable }, ((omega (arith, c .before .before .before .to-hxt48 .ensures .1 .1, c .before .before .before .before .before .before .before .leave-dll1 .ensures .1 .1, c .before .before .before .before .before .before .before .before .before .before .before .raise .ensures .1 .1, c .before .before .before .before .before .before .before .before .before .before .before .before .before .before .before .pre .1 .0 .0), c .before .before .before .before .before .before .before .before .before .before .before .before .before .before .before .pre .1 .0 .1), legal-stages (c .before .before .before .before .before .before .before .before .before .before .before .before .before .before .before .args .p) (c .before .before .before .before .before .before .before .before .before .before .before .before .before .before .before .pre .1 .1) .0))
+configure-dll1-requires c κs =
+    let parked : tie.After-to-hxt48 = search in
+    let left : tie.After-leave-dll1 = search in
+    let raised : tie.After-raise = search in
+    let start : tie.Start = search in
+    let done = raised .raise .ensures then left .leave-dll1 .ensures then parked .to-hxt48 .ensures in
+    (lent-after (omega arith) (start .pre .0) done, legal-stages (start .args .p) (start .pre .1) .0)
 
 same-length : tie.Need-same-length
 same-length c = search needs
 
 returns : tie.Need-returns
-returns c = both (both-quiet (both-quiet (c .before .before .before .before .before .before .before .before .before .before .before .before .before .before .raise .ensures) (c .before .before .before .before .before .before .before .before .before .before .leave-dll1 .ensures)) (c .before .before .before .before .before .before .to-hxt48 .ensures)) (c .before .before .configure-dll1 .ensures)
+returns c =
+    let set : tie.After-configure-dll1 = search in
+    let parked : tie.After-to-hxt48 = search in
+    let left : tie.After-leave-dll1 = search in
+    let raised : tie.After-raise = search in
+    raised .raise .ensures then left .leave-dll1 .ensures then parked .to-hxt48 .ensures then set .configure-dll1 .ensures
 
 pub leave-spec : {M : Type 1} → statement M
 leave-spec =

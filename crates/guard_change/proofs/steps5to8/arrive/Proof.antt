@@ -1,6 +1,6 @@
 -- `guard_change::steps5to8::arrive` meets its contract: one step after the other. Assumes nothing.
 use native.Mathlib.Omega.{arith}
-use Rattle.journal.proofs.Steps.{both-quiet}
+use Rattle.journal.proofs.Does.{_then_, lent-after}
 use borrow.Author.Needs.{needs}
 use Rattle.guard_change.proofs.steps5to8.arrive.Statement.{statement}
 use Rattle.guard_change.proofs.steps5to8.arrive.Tie as tie
@@ -18,13 +18,26 @@ back-to-requires : tie.Need-back-to-requires
 back-to-requires c κs = search needs
 
 settle-requires : tie.Need-settle-requires
-settle-requires c κs = record { room = omega (arith, c .before .before .before .back-to .ensures .1 .0 .room, c .before .before .before .before .before .before .before .to-planned .ensures .1 .0 .room, c .before .before .before .before .before .before .before .before .before .before .before .apply-dividers .ensures .1 .0 .room, c .before .before .before .before .before .before .before .before .before .before .before .before .before .before .before .pre .0 .room); encodable = c .before .before .before .back-to .ensures .1 .0 .encodable }
+settle-requires c κs =
+    let moved-back : tie.After-back-to = search in
+    let switched : tie.After-to-planned = search in
+    let divided : tie.After-apply-dividers = search in
+    let start : tie.Start = search in
+    lent-after (omega arith) (start .pre .0) (divided .apply-dividers .ensures then switched .to-planned .ensures then moved-back .back-to .ensures)
 
 same-length : tie.Need-same-length
 same-length c = search needs
 
 returns : tie.Need-returns
-returns c = rw (← c .before .before .before .before .before .before .before .before .before .before .before .before .before .before .before .before .before .before .pre .1 .1 .1, ← c .before .before .before .before .before .before .before .before .before .before .before .before .before .before .before .before .mode-at .ensures) (both-quiet (both-quiet (both-quiet (c .before .before .before .before .before .before .before .before .before .before .before .before .before .before .apply-dividers .ensures) (c .before .before .before .before .before .before .before .before .before .before .to-planned .ensures)) (c .before .before .before .before .before .before .back-to .ensures)) (c .before .before .settle .ensures))
+returns c =
+    let settled : tie.After-settle = search in
+    let moved-back : tie.After-back-to = search in
+    let switched : tie.After-to-planned = search in
+    let divided : tie.After-apply-dividers = search in
+    let found : tie.After-mode-at = search in
+    let start : tie.Start = search in
+    let steps = divided .apply-dividers .ensures then switched .to-planned .ensures then moved-back .back-to .ensures then settled .settle .ensures in
+    rw (← start .pre .1 .1 .1, ← found .mode-at .ensures) steps
 
 pub arrive-spec : {M : Type 1} → statement M
 arrive-spec =

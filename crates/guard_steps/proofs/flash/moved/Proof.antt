@@ -24,8 +24,13 @@ word-requires c κs = search needs
 
 returns : tie.Need-returns
 returns c =
-    let same : c .word .result ≡ moved (c .before .before .before .before .before .args .selects) = simp (c .word .ensures, c .before .before .before .away .ensures .0, c .before .away2 .ensures .0, c .before .before .before .before .b .ensures, c .before .before .c .ensures) in
-    (same, rw same (moved-fits (c .before .before .before .before .before .args .selects) (c .before .before .before .before .before .pre)))
+    let after-away2 : tie.After-away2 = search in
+    let after-c : tie.After-c = search in
+    let after-away : tie.After-away = search in
+    let after-b : tie.After-b = search in
+    let start : tie.Start = search in
+    let same : c .word .result ≡ moved (start .args .selects) = simp (c .word .ensures, after-away .away .ensures .0, after-away2 .away2 .ensures .0, after-b .b .ensures, after-c .c .ensures) in
+    (same, rw same (moved-fits (start .args .selects) (start .pre)))
 
 pub moved-spec : {M : Type 1} → statement M
 moved-spec =

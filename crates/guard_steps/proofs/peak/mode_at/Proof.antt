@@ -16,11 +16,16 @@ enum-told c = search needs
 
 returns : tie.Need-returns
 unfolding modeAt
-returns c = sym (ap modeOr (sym (c .before .before .from-hertz .ensures) ∙ c .enum-told .given .1))
+returns c =
+    let after-from-hertz : tie.After-from-hertz = search in
+    sym (ap modeOr (sym (after-from-hertz .from-hertz .ensures) ∙ c .enum-told .given .1))
 
 returns-2 : tie.Need-returns-2
 unfolding modeAt
-returns-2 c = sym (ap modeOr (sym (c .before .before .before .from-hertz .ensures) ∙ c .before .mode .given .1))
+returns-2 c =
+    let after-mode : tie.After-mode = search in
+    let after-from-hertz : tie.After-from-hertz = search in
+    sym (ap modeOr (sym (after-from-hertz .from-hertz .ensures) ∙ after-mode .mode .given .1))
 
 pub mode-at-spec : {M : Type 1} → statement M
 mode-at-spec = tie.close (tie.spec from-hertz-requires enum-known-mode enum-told returns returns-2)

@@ -18,7 +18,11 @@ highest-requires-2 c κs = search needs
 
 returns : tie.Need-returns
 unfolding peakOf
-returns c = simp (c .highest2 .ensures, c .before .mode-at2 .ensures, c .before .before .highest .ensures, c .before .before .before .mode-at .ensures)
+returns c =
+    let after-mode-at2 : tie.After-mode-at2 = search in
+    let after-highest : tie.After-highest = search in
+    let after-mode-at : tie.After-mode-at = search in
+    simp (c .highest2 .ensures, after-mode-at2 .mode-at2 .ensures, after-highest .highest .ensures, after-mode-at .mode-at .ensures)
 
 pub peak-spec : {M : Type 1} → statement M
 peak-spec =

@@ -1,15 +1,10 @@
 -- `guard_steps::supply::raise` meets its contract: the rail limit and the peak's supply pick the case. Assumes nothing.
 use native.Mathlib.Omega.{arith}
-use mathlib.Core.Path.{refl}
-use mathlib.Core.Bool.{cond}
-use lib.Dec.{ltb}
 use borrow.Author.Tests.{lt-ltb, le-ltb}
-use Rattle.head.specs.declared.Head.{Head}
-use Rattle.journal.specs.Run.{idle}
-use Rattle.journal.proofs.Steps.{both-quiet, step-as, no-step, of-head}
 use Rattle.fit.specs.rail.{limitHz, railLimit}
-use Rattle.guard_steps.specs.supply.{raising, raise}
+use Rattle.guard_steps.specs.supply.{raiseOn, raise}
 use Rattle.guard_steps.proofs.supply.Cases.{raising-d, raising-s}
+use Rattle.journal.proofs.Does.{_then_, does-within, by-head, does-nothing}
 use borrow.Author.Needs.{needs}
 use Rattle.guard_steps.proofs.supply.raise.Statement.{statement}
 use Rattle.guard_steps.proofs.supply.raise.Tie as tie
@@ -23,11 +18,12 @@ limit-requires c κs = search needs
 returns : tie.Need-returns
 unfolding raise
 returns c =
-    let start = c .before .before .before .before .before .before .before in
+    let limited : tie.After-limit = search in
+    let railed : tie.After-rail-limit = search in
+    let start : tie.Start = search in
     let peak = start .args .peak in
-    let test = le-ltb (railLimit (start .args .m .head)) (limitHz peak) (omega (arith, c .before .before .before .limit .ensures, c .before .before .before .before .rail-limit .ensures, c .if1 .taken)) in
-    of-head (λ (h : Head). cond (ltb (railLimit h) (limitHz peak)) (raising peak) idle)
-    (rw test (no-step 5 _ _ (start .pre .encodable) refl))
+    let high = le-ltb (railLimit (start .args .m .head)) (limitHz peak) (omega (arith, limited .limit .ensures, railed .rail-limit .ensures, c .if1 .taken)) in
+    by-head (raiseOn peak) (rw high (does-nothing (start .pre)))
 
 number-requires : tie.Need-number-requires
 number-requires c κs = search needs
@@ -44,10 +40,18 @@ same-length c = search needs
 returns-2 : tie.Need-returns-2
 unfolding raise
 returns-2 c =
-    let test = lt-ltb (railLimit (c .before .before .before .before .before .before .before .before .before .before .before .before .before .before .before .before .before .args .m .head)) (limitHz (c .before .before .before .before .before .before .before .before .before .before .before .before .before .before .before .before .before .args .peak)) (omega (arith, c .before .before .before .before .before .before .before .before .before .before .before .before .before .limit .ensures, c .before .before .before .before .before .before .before .before .before .before .before .before .before .before .rail-limit .ensures, c .before .before .before .before .before .before .before .before .before .before .if1 .left)) in
-    let low = raising-d (c .before .before .before .before .before .before .before .before .before .before .before .before .before .before .before .before .before .args .peak) (omega (arith, c .before .before .before .before .before .before .before .before .before .number .ensures .0, c .before .before .before .before .before .before .before .before .if2 .taken)) in
-    of-head (λ (h : Head). cond (ltb (railLimit h) (limitHz (c .before .before .before .before .before .before .before .before .before .before .before .before .before .before .before .before .before .args .peak))) (raising (c .before .before .before .before .before .before .before .before .before .before .before .before .before .before .before .before .before .args .peak)) idle)
-    (rw (test, low) (step-as (λ r q. refl) (omega arith) (both-quiet (c .before .before .before .before .before .before .switch-hcpu-dvfs-s2d-first .ensures) (c .before .before .delay-us .ensures))))
+    let delayed : tie.After-delay-us = search in
+    let set : tie.After-switch-hcpu-dvfs-s2d-first = search in
+    let then2 : tie.Then2 = search in
+    let numbered : tie.After-number = search in
+    let else1 : tie.Else1 = search in
+    let limited : tie.After-limit = search in
+    let railed : tie.After-rail-limit = search in
+    let start : tie.Start = search in
+    let peak = start .args .peak in
+    let low = lt-ltb (railLimit (start .args .m .head)) (limitHz peak) (omega (arith, limited .limit .ensures, railed .rail-limit .ensures, else1 .if1 .left)) in
+    let is-d = raising-d peak (omega (arith, numbered .number .ensures .0, then2 .if2 .taken)) in
+    by-head (raiseOn peak) (rw (low, is-d) (does-within (omega arith) (set .switch-hcpu-dvfs-s2d-first .ensures then delayed .delay-us .ensures)))
 
 switch-hcpu-dvfs-d2s-first-requires : tie.Need-switch-hcpu-dvfs-d2s-first-requires
 switch-hcpu-dvfs-d2s-first-requires c κs = search needs
@@ -58,11 +62,17 @@ same-length-2 c = search needs
 returns-3 : tie.Need-returns-3
 unfolding raise
 returns-3 c =
-    let start = c .before .before .before .before .before .before .before .before .before .before .before .before .before in
+    let set : tie.After-switch-hcpu-dvfs-d2s-first = search in
+    let else2 : tie.Else2 = search in
+    let numbered : tie.After-number = search in
+    let else1 : tie.Else1 = search in
+    let limited : tie.After-limit = search in
+    let railed : tie.After-rail-limit = search in
+    let start : tie.Start = search in
     let peak = start .args .peak in
-    let test = lt-ltb (railLimit (start .args .m .head)) (limitHz peak) (omega (arith, c .before .before .before .before .before .before .before .before .before .limit .ensures, c .before .before .before .before .before .before .before .before .before .before .rail-limit .ensures, c .before .before .before .before .before .before .if1 .left)) in
-    of-head (λ (h : Head). cond (ltb (railLimit h) (limitHz peak)) (raising peak) idle)
-    (rw (test, raising-s peak (omega (arith, c .before .before .before .before .before .number .ensures .0, c .before .before .before .before .if2 .left))) (c .before .before .switch-hcpu-dvfs-d2s-first .ensures))
+    let low = lt-ltb (railLimit (start .args .m .head)) (limitHz peak) (omega (arith, limited .limit .ensures, railed .rail-limit .ensures, else1 .if1 .left)) in
+    let is-s = raising-s peak (omega (arith, numbered .number .ensures .0, else2 .if2 .left)) in
+    by-head (raiseOn peak) (rw (low, is-s) (set .switch-hcpu-dvfs-d2s-first .ensures))
 
 pub raise-spec : {M : Type 1} → statement M
 raise-spec =

@@ -1,7 +1,7 @@
 -- `guard_steps::supply::settle` meets its contract: by the supply of the mode. Assumes nothing.
 use native.Mathlib.Omega.{arith}
-use Rattle.journal.proofs.Steps.{both-quiet}
 use Rattle.guard_steps.proofs.supply.Cases.{settle-d, settle-s}
+use Rattle.journal.proofs.Does.{_then_}
 use borrow.Author.Needs.{needs}
 use Rattle.guard_steps.proofs.supply.settle.Statement.{statement}
 use Rattle.guard_steps.proofs.supply.settle.Tie as tie
@@ -19,7 +19,14 @@ same-length : tie.Need-same-length
 same-length c = search needs
 
 returns : tie.Need-returns
-returns c = rw (settle-d (c .before .before .before .before .before .before .before .before .before .before .before .args .mode) (omega (arith, c .before .before .before .before .before .before .before .before .before .number .ensures .0, c .before .before .before .before .before .before .before .before .if1 .taken))) (both-quiet (c .before .before .before .before .before .before .switch-hcpu-dvfs-s2d-first .ensures) (c .before .before .switch-hcpu-dvfs-s2d-second .ensures))
+returns c =
+    let second : tie.After-switch-hcpu-dvfs-s2d-second = search in
+    let first : tie.After-switch-hcpu-dvfs-s2d-first = search in
+    let then1 : tie.Then1 = search in
+    let numbered : tie.After-number = search in
+    let start : tie.Start = search in
+    let is-d = settle-d (start .args .mode) (omega (arith, numbered .number .ensures .0, then1 .if1 .taken)) in
+    rw is-d (first .switch-hcpu-dvfs-s2d-first .ensures then second .switch-hcpu-dvfs-s2d-second .ensures)
 
 settle-s-requires : tie.Need-settle-s-requires
 settle-s-requires c κs = search needs
@@ -28,7 +35,13 @@ same-length-2 : tie.Need-same-length-2
 same-length-2 c = search needs
 
 returns-2 : tie.Need-returns-2
-returns-2 c = rw (settle-s (c .before .before .before .before .before .before .before .args .mode) (omega (arith, c .before .before .before .before .before .number .ensures .0, c .before .before .before .before .if1 .left))) (c .before .before .settle-s .ensures)
+returns-2 c =
+    let settled : tie.After-settle-s = search in
+    let else1 : tie.Else1 = search in
+    let numbered : tie.After-number = search in
+    let start : tie.Start = search in
+    let is-s = settle-s (start .args .mode) (omega (arith, numbered .number .ensures .0, else1 .if1 .left)) in
+    rw is-s (settled .settle-s .ensures)
 
 pub settle-spec : {M : Type 1} → statement M
 settle-spec =

@@ -1,6 +1,6 @@
 -- `guard_steps::supply::settle_s` meets its contract: one step after the other. Assumes nothing.
-use Rattle.journal.proofs.Steps.{both-quiet}
 use Rattle.dvfs_hpsys.proofs.volts.Rows.{supply-fits}
+use Rattle.journal.proofs.Does.{_then_}
 use borrow.Author.Needs.{needs}
 use Rattle.guard_steps.proofs.supply.settle_s.Statement.{statement}
 use Rattle.guard_steps.proofs.supply.settle_s.Tie as tie
@@ -18,7 +18,11 @@ same-length : tie.Need-same-length
 same-length c = search needs
 
 returns : tie.Need-returns
-returns c = both-quiet (both-quiet (c .before .before .before .before .before .before .before .before .before .before .config-hcpu-sx-mode-volt .ensures) (c .before .before .before .before .before .before .store-timing .ensures)) (c .before .before .store .ensures)
+returns c =
+    let supplied : tie.After-store = search in
+    let timed : tie.After-store-timing = search in
+    let set : tie.After-config-hcpu-sx-mode-volt = search in
+    set .config-hcpu-sx-mode-volt .ensures then timed .store-timing .ensures then supplied .store .ensures
 
 pub settle-s-spec : {M : Type 1} → statement M
 settle-s-spec =

@@ -2,6 +2,7 @@
 use Rattle.journal.proofs.Steps.{then-quiet}
 use Rattle.init_first.specs.begin.{initBegin}
 use Rattle.init_first.proofs.begin.Fits.{peri-fits}
+use Rattle.journal.proofs.Does.{clauses}
 use borrow.Author.Needs.{needs}
 use Rattle.init_first.proofs.begin.init_begin.Statement.{statement}
 use Rattle.init_first.proofs.begin.init_begin.Tie as tie
@@ -17,7 +18,7 @@ same-length c = search needs
 
 returns : tie.Need-returns
 unfolding initBegin
-returns c = then-quiet (c .before .before .before .before .before .before .start-hxt48 .ensures) (c .before .before .store .ensures)
+returns c = then-quiet (c .before .before .before .before .before .before .start-hxt48 .ensures) (clauses (c .before .before .store .ensures))
 
 pub init-begin-spec : {M : Type 1} → statement M
 init-begin-spec = tie.close (tie.spec start-hxt48-requires store-requires same-length returns)

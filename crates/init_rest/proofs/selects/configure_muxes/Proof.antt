@@ -4,6 +4,7 @@ use Rattle.register.proofs.Fits.{zero-fits}
 use Rattle.journal.proofs.Steps.{both-quiet}
 use Rattle.init_rest.specs.selects.{plannedMuxes}
 use Rattle.init_rest.proofs.selects.Fits.{peri-fits, wdt-fits}
+use Rattle.journal.proofs.Does.{clauses}
 use borrow.Author.Needs.{needs}
 use Rattle.init_rest.proofs.selects.configure_muxes.Statement.{statement}
 use Rattle.init_rest.proofs.selects.configure_muxes.Tie as tie
@@ -28,7 +29,7 @@ same-length c = search needs
 
 returns : tie.Need-returns
 unfolding plannedMuxes
-returns c = both-quiet (both-quiet (c .before .before .before .before .before .before .before .before .before .before .store .ensures) (c .before .before .before .before .before .before .store2 .ensures)) (c .before .before .store3 .ensures)
+returns c = both-quiet (both-quiet (clauses (c .before .before .before .before .before .before .before .before .before .before .store .ensures)) (clauses (c .before .before .before .before .before .before .store2 .ensures))) (clauses (c .before .before .store3 .ensures))
 
 pub configure-muxes-spec : {M : Type 1} → statement M
 configure-muxes-spec =

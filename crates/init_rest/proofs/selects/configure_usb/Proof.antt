@@ -3,6 +3,7 @@ use mathlib.Core.Path.{refl}
 use Rattle.journal.proofs.Steps.{no-step, both-quiet}
 use Rattle.init_rest.specs.selects.{plannedUsb}
 use Rattle.init_rest.proofs.selects.Fits.{usb-fits, source-fits}
+use Rattle.journal.proofs.Does.{clauses}
 use borrow.Author.Needs.{needs}
 use Rattle.init_rest.proofs.selects.configure_usb.Statement.{statement}
 use Rattle.init_rest.proofs.selects.configure_usb.Tie as tie
@@ -21,7 +22,7 @@ same-length c = search needs
 
 returns : tie.Need-returns
 unfolding plannedUsb
-returns c = simp (c .before .before .before .before .before .before .before .before .if1 .taken, ← c .before .before .before .before .before .before .before .before .before .before .before .pre .1 .1 .0) (both-quiet (c .before .before .before .before .before .before .store .ensures) (c .before .before .store2 .ensures))
+returns c = simp (c .before .before .before .before .before .before .before .before .if1 .taken, ← c .before .before .before .before .before .before .before .before .before .before .before .pre .1 .1 .0) (both-quiet (clauses (c .before .before .before .before .before .before .store .ensures)) (clauses (c .before .before .store2 .ensures)))
 
 returns-2 : tie.Need-returns-2
 unfolding plannedUsb

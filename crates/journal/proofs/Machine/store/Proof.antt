@@ -38,15 +38,20 @@ same-length : tie.Need-same-length
 same-length c = search needs
 
 returns : tie.Need-returns
-returns c = (
-  ran-store (c .before .before .args .self) (c .before .before .args .journal .now) (c .before .before .args .number) (c .before .before .args .value) (c .if1 .taken) (search needs),
-  (record { room = omega arith; encodable = store-encodable _ _ _ (c .before .before .pre .0 .encodable) (c .before .before .pre .1 .1) }, refl),
-)
+returns c =
+    let start : tie.Start = search in
+    record {
+      ran = ran-store (start .args .self) (start .args .journal .now) (start .args .number) (start .args .value) (c .if1 .taken) (search needs);
+      room = omega arith;
+      encodable = store-encodable _ _ _ (start .pre .0 .encodable) (start .pre .1 .1);
+      answers = refl;
+    }
 
 returns-2 : tie.Need-returns-2
 unfolding store
 returns-2 c =
-    (ran-ended _ (c .before .before .args .self) _ (c .if1 .left), (record { room = omega arith; encodable = c .before .before .pre .0 .encodable }, refl))
+    let start : tie.Start = search in
+    record { ran = ran-ended _ (start .args .self) _ (c .if1 .left); room = omega arith; encodable = start .pre .0 .encodable; answers = refl }
 
 pub store-spec : {M : Type 1} → statement M
 store-spec =

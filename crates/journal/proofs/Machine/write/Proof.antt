@@ -19,14 +19,19 @@ same-length : tie.Need-same-length
 same-length c = search needs
 
 returns : tie.Need-returns
-returns c = (
-  ran-wrote (c .before .before .args .self) (c .before .before .args .journal .now) _ (c .if1 .taken) (search needs),
-  (record { room = omega arith; encodable = c .before .before .pre .encodable }, refl),
-)
+returns c =
+    let start : tie.Start = search in
+    record {
+      ran = ran-wrote (start .args .self) (start .args .journal .now) _ (c .if1 .taken) (search needs);
+      room = omega arith;
+      encodable = start .pre .encodable;
+      answers = refl;
+    }
 
 returns-2 : tie.Need-returns-2
 returns-2 c =
-    (ran-ended _ (c .before .before .args .self) _ (c .if1 .left), (record { room = omega arith; encodable = c .before .before .pre .encodable }, refl))
+    let start : tie.Start = search in
+    record { ran = ran-ended _ (start .args .self) _ (c .if1 .left); room = omega arith; encodable = start .pre .encodable; answers = refl }
 
 pub write-spec : {M : Type 1} → statement M
 write-spec = tie.close (tie.spec mul-journal slice-write-journal add-at same-length returns returns-2)

@@ -7,6 +7,7 @@ use Rattle.journal.specs.Run.{store}
 use Rattle.journal.proofs.Reached.{ran-as}
 use Rattle.lpsys_request.specs.hdiv.{setHdiv}
 use Rattle.lpsys_request.proofs.hdiv.Fits.{hdiv-fits}
+use Rattle.journal.proofs.Does.{clauses}
 use borrow.Author.Needs.{needs}
 use Rattle.lpsys_request.proofs.hdiv.set_hdiv.Statement.{statement}
 use Rattle.lpsys_request.proofs.hdiv.set_hdiv.Tie as tie
@@ -32,7 +33,7 @@ same-length c = search needs
 returns : tie.Need-returns
 unfolding setHdiv
 returns c =
-    (ran-as (λ r q. simp (c .before .before .before .before .word .ensures, c .before .before .before .before .before .before .b .ensures, c .before .before .before .before .before .c .ensures) (ap (λ (w : Machine). store 26 (wordOf (c .before .before .before .before .before .before .before .before .before .before .args .hdiv) (byteB (reg (w .head) 26)) (byteC (reg (w .head) 26))) r) q)) (c .before .before .store .ensures .0), c .before .before .store .ensures .1)
+    (ran-as (λ r q. simp (c .before .before .before .before .word .ensures, c .before .before .before .before .before .before .b .ensures, c .before .before .before .before .before .c .ensures) (ap (λ (w : Machine). store 26 (wordOf (c .before .before .before .before .before .before .before .before .before .before .args .hdiv) (byteB (reg (w .head) 26)) (byteC (reg (w .head) 26))) r) q)) (clauses (c .before .before .store .ensures) .0), clauses (c .before .before .store .ensures) .1)
 
 pub set-hdiv-spec : {M : Type 1} → statement M
 set-hdiv-spec =

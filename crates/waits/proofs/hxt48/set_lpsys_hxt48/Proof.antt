@@ -8,12 +8,21 @@ use Rattle.waits.proofs.hxt48.set_lpsys_hxt48.Statement.{statement}
 use Rattle.waits.proofs.hxt48.set_lpsys_hxt48.Tie as tie
 
 returns : tie.Need-returns
-returns c = (λ j. ran-ended _ (c .before .args .m) j (c .if1 .taken), (record { room = omega arith; encodable = c .before .pre }, refl))
+returns c =
+    let start : tie.Start = search in
+    record { ran = λ j. ran-ended _ (start .args .m) j (c .if1 .taken); room = omega arith; encodable = start .pre; answers = refl }
 
 returns-2 : tie.Need-returns-2
 returns-2 c =
-    let e = c .before .before .pre in
-    (λ j. ran-headed withLpsysHxt48 (c .before .before .args .m) j (c .before .if1 .left), (record { room = omega arith; encodable = same-tasks-encodable e (e .words) (e .codes) (e .boot) (e .wake) refl refl }, refl))
+    let else1 : tie.Else1 = search in
+    let start : tie.Start = search in
+    let e = start .pre in
+    record {
+      ran = λ j. ran-headed withLpsysHxt48 (start .args .m) j (else1 .if1 .left);
+      room = omega arith;
+      encodable = same-tasks-encodable e (e .words) (e .codes) (e .boot) (e .wake) refl refl;
+      answers = refl;
+    }
 
 pub set-lpsys-hxt48-spec : {M : Type 1} → statement M
 set-lpsys-hxt48-spec = tie.close (tie.spec returns returns-2)

@@ -5,7 +5,7 @@ use mathlib.Core.Bool.{true, false}
 use Rattle.journal.specs.declared.Machine.{Machine}
 use Rattle.journal.specs.Run.{Run, waitHxt48}
 use Rattle.journal.specs.Machine.{machineOf}
-use Rattle.journal.proofs.Reached.{ran-as, ran-then}
+use Rattle.journal.proofs.Does.{_then_, does-as, takes-none, beside}
 use borrow.Author.Needs.{needs}
 use Rattle.waits.proofs.hxt48.wait_hxt48.Statement.{statement}
 use Rattle.waits.proofs.hxt48.wait_hxt48.Tie as tie
@@ -19,8 +19,12 @@ same-length c = search needs
 returns : tie.Need-returns
 unfolding waitHxt48
 returns c =
-    let flag : (r : Run) → c .before .before .before .before .before .before .before .before .args .m ≡ machineOf r → r .head .«hxt48_ready» ≡ true = λ r q. ap (λ (w : Machine). w .head .«hxt48_ready») (sym q) ∙ c .before .before .before .before .if1 .taken in
-    (ran-as (λ r q. simp (flag r q)) (c .before .before .wait-none .ensures .0), (c .before .before .wait-none .ensures .1 .0, search needs))
+    let after-wait-none : tie.After-wait-none = search in
+    let then1 : tie.Then1 = search in
+    let start : tie.Start = search in
+    let flag : (r : Run) → start .args .m ≡ machineOf r → r .head .«hxt48_ready» ≡ true =
+    λ r q. ap (λ (w : Machine). w .head .«hxt48_ready») (sym q) ∙ then1 .if1 .taken in
+    does-as (λ r q. simp (flag r q)) (omega arith) (takes-none (start .pre) (after-wait-none .wait-none .ensures))
 
 wait-for-requires : tie.Need-wait-for-requires
 wait-for-requires c κs = search needs
@@ -34,10 +38,12 @@ same-length-2 c = search needs
 returns-2 : tie.Need-returns-2
 unfolding waitHxt48
 returns-2 c =
-    let flag : (r : Run) → c .before .before .before .before .before .before .before .before .before .args .m ≡ machineOf r → r .head .«hxt48_ready» ≡ false = λ r q. ap (λ (w : Machine). w .head .«hxt48_ready») (sym q) ∙ c .before .before .before .before .before .if1 .left in (
-      ran-as (λ r q. simp (flag r q)) (ran-then (c .before .before .before .wait-for .ensures .0) (c .set-hxt48 .ensures .0 _)),
-      (record { room = omega (arith, c .before .before .before .wait-for .ensures .1 .0 .room, c .set-hxt48 .ensures .1 .0 .room); encodable = c .set-hxt48 .ensures .1 .0 .encodable }, omega arith),
-    )
+    let after-wait-for : tie.After-wait-for = search in
+    let else1 : tie.Else1 = search in
+    let start : tie.Start = search in
+    let flag : (r : Run) → start .args .m ≡ machineOf r → r .head .«hxt48_ready» ≡ false =
+    λ r q. ap (λ (w : Machine). w .head .«hxt48_ready») (sym q) ∙ else1 .if1 .left in
+    does-as (λ r q. simp (flag r q)) (omega arith) (after-wait-for .wait-for .ensures then beside (c .set-hxt48 .ensures))
 
 pub wait-hxt48-spec : {M : Type 1} → statement M
 wait-hxt48-spec =
