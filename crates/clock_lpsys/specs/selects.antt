@@ -1,6 +1,7 @@
 -- What each setter of a source of rcc/clock_lpsys.rs leaves, on the bytes lent to it. Assumes nothing.
 use Prim.Native.Nat.{ℕ}
 use mathlib.Core.List.{List, [], _∷_}
+use Rattle.register.specs.Numbers.{LPSYS_PERI, LPSYS_SYSCLK}
 use Rattle.journal.specs.Run.{store}
 use Rattle.call.specs.Call.{Result, journalCall}
 use Rattle.lpsys_tests.specs.Tests.{sourceRefusal}
@@ -10,7 +11,7 @@ unfoldable pub select : ℕ → ℕ → List ℕ → List ℕ → Result
 select n source b j = journalCall (sourceRefusal source ∷ []) (store n source) 0 b j
 
 abbrev pub selectSysclk : ℕ → List ℕ → List ℕ → Result
-selectSysclk = select 25
+selectSysclk = select LPSYS_SYSCLK
 
 abbrev pub selectPeri : ℕ → List ℕ → List ℕ → Result
-selectPeri = select 27
+selectPeri = select LPSYS_PERI

@@ -26,7 +26,7 @@ pub fn set_lpsys_div(
 {
     let refusal = lpsys_tests::div_refusal(pdiv1, pdiv2);
     let word = lpsys_tests::words::div_word(hdiv, pdiv1, pdiv2);
-    call::store::store_once(buffer, refusal, 26, word, journal)
+    call::store::store_once(buffer, refusal, register::LPSYS_CFGR, word, journal)
 }
 
 pub fn config_lpsys_mac_clock(
@@ -38,5 +38,5 @@ pub fn config_lpsys_mac_clock(
     ensures { λ r. ⌜ Answers (configMac macdiv macfreq (now (buffer .entry)) (now (journal .entry))) r (now (buffer .exit)) (now (journal .exit)) ⌝ }
 {
     let word = lpsys_tests::words::mac_word(macdiv, macfreq);
-    call::store::store_once(buffer, 0, 34, word, journal)
+    call::store::store_once(buffer, 0, register::LPSYS_MAC, word, journal)
 }

@@ -19,11 +19,11 @@ fn select(buffer: &mut [u8], register: usize, source: u8, journal: &mut [u32]) -
 pub fn select_lpsys_sysclk(buffer: &mut [u8], source: u8, journal: &mut [u32]) -> Answer
     ensures { λ r. ⌜ Answers (selectSysclk source (now (buffer .entry)) (now (journal .entry))) r (now (buffer .exit)) (now (journal .exit)) ⌝ }
 {
-    select(buffer, 25, source, journal)
+    select(buffer, register::LPSYS_SYSCLK, source, journal)
 }
 
 pub fn select_lpsys_peri(buffer: &mut [u8], source: u8, journal: &mut [u32]) -> Answer
     ensures { λ r. ⌜ Answers (selectPeri source (now (buffer .entry)) (now (journal .entry))) r (now (buffer .exit)) (now (journal .exit)) ⌝ }
 {
-    select(buffer, 27, source, journal)
+    select(buffer, register::LPSYS_PERI, source, journal)
 }

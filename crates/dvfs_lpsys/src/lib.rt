@@ -1,8 +1,7 @@
 // pmu/dvfs.rs: the halves of a supply transition of LPSYS, before and after the clock is set.
 pub mod switch;
 
-ghost use mathlib.Core.Path.{_≡_};
-ghost use Rattle.journal.specs.Machine.{Ran, Ready, Kept};
+ghost use Rattle.journal.specs.Machine.{Lent, Does, none};
 ghost use Rattle.dvfs_lpsys.specs.LpsysModes.{lpsysFirst, lpsysSecond};
 use dvfs::lpsys::LpsysDvfsMode;
 use journal::Machine;
@@ -14,10 +13,8 @@ pub fn config_lpsys_dvfs_first(
     current: LpsysDvfsMode,
     target: LpsysDvfsMode,
 ) -> Machine
-    requires { ⌜ Ready 3 m (now journal) ⌝ }
-    ensures { λ r. ⌜ Ran (lpsysFirst current target) m r (now (journal .entry)) (now (journal .exit)) ⌝ }
-    ensures { λ r. ⌜ Kept 3 m r ⌝ }
-    ensures { λ r. ⌜ r .taken ≡ m .taken ⌝ }
+    requires { ⌜ Lent 3 m (now journal) none ⌝ }
+    ensures { λ r. ⌜ Does 3 (lpsysFirst current target) m r (now (journal .entry)) (now (journal .exit)) none ⌝ }
 {
     match current {
         LpsysDvfsMode::D => match target {
@@ -38,10 +35,8 @@ pub fn config_lpsys_dvfs_second(
     current: LpsysDvfsMode,
     target: LpsysDvfsMode,
 ) -> Machine
-    requires { ⌜ Ready 2 m (now journal) ⌝ }
-    ensures { λ r. ⌜ Ran (lpsysSecond current target) m r (now (journal .entry)) (now (journal .exit)) ⌝ }
-    ensures { λ r. ⌜ Kept 2 m r ⌝ }
-    ensures { λ r. ⌜ r .taken ≡ m .taken ⌝ }
+    requires { ⌜ Lent 2 m (now journal) none ⌝ }
+    ensures { λ r. ⌜ Does 2 (lpsysSecond current target) m r (now (journal .entry)) (now (journal .exit)) none ⌝ }
 {
     match current {
         LpsysDvfsMode::D => m,

@@ -154,7 +154,9 @@ module _ (f : ℕ) (h : Head) (ok : Encodable h) (p : 1 ≤ f) where
         let m26 = falls r30 q m30 in
         let m31 = moments-store Kept l 31 0x162 (omega arith) (omega arith) r26 m26 (other (r26 .head .regs) 31 0x162 (λ e. omega arith) (λ e. omega arith) (moments-now Kept l r26 m26)) in
         let words = moments-now Kept l r30 m30 .words in
-        let divider : getD (r31 .head .regs) 26 0 ≡ word (r30 .head) = getD-set-other (r26 .head .regs) 31 26 0x162 0 (λ e. omega arith) ∙ getD-set-same (r30 .head .regs) 26 (word (r30 .head)) 0 (omega (arith, words)) in
+        let untouched = getD-set-other (r26 .head .regs) 31 26 0x162 0 (λ e. omega arith) in
+        let stored = getD-set-same (r30 .head .regs) 26 (word (r30 .head)) 0 (omega (arith, words)) in
+        let divider : getD (r31 .head .regs) 26 0 ≡ word (r30 .head) = untouched ∙ stored in
         moments-store Kept l 28 0 (omega arith) (omega arith) r31 m31
         (to-d (r31 .head .regs) (moments-now Kept l r31 m31 .words) (rw (divider, word-a (r30 .head)) (divider-slow f h p q)))
 

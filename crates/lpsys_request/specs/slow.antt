@@ -2,10 +2,14 @@
 use mathlib.Core.Bool.{cond}
 use lib.Dec.{ltb}
 use Rattle.time.specs.Frequency.{hzOr}
+use Rattle.head.specs.declared.Head.{Head}
 use Rattle.clock_read.specs.lpsys.{lpsysHclkOf}
-use Rattle.journal.specs.Run.{Effect}
+use Rattle.journal.specs.Run.{Effect, idle}
 use Rattle.lpsys_request.specs.Request.{request}
 
 -- a request of 24 MHz where LPSYS HCLK is above it
+abbrev pub slowDownOn : Head → Effect
+slowDownOn h = cond (ltb 24000000 (hzOr 0 (lpsysHclkOf h))) (request 24) idle
+
 unfoldable pub slowDown : Effect
-slowDown r = cond (ltb 24000000 (hzOr 0 (lpsysHclkOf (r .head)))) (request 24 r) r
+slowDown r = slowDownOn (r .head) r

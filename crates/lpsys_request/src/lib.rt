@@ -4,18 +4,15 @@ pub mod hdiv;
 pub mod modes;
 pub mod slow;
 
-ghost use mathlib.Core.Path.{_≡_};
 ghost use Prim.Native.Nat.{_≤_};
-ghost use Rattle.journal.specs.Machine.{Ran, Ready, Kept};
+ghost use Rattle.journal.specs.Machine.{Lent, Does, none};
 ghost use Rattle.lpsys_request.specs.Request.{request};
 use journal::Machine;
 
 pub fn request(m: Machine, journal: &mut [u32], mhz: u32) -> Machine
-    requires { ⌜ Ready 6 m (now journal) ⌝ }
+    requires { ⌜ Lent 6 m (now journal) none ⌝ }
     requires { ⌜ (1 ≤ mhz) × (mhz ≤ 48) ⌝ }
-    ensures { λ r. ⌜ Ran (request mhz) m r (now (journal .entry)) (now (journal .exit)) ⌝ }
-    ensures { λ r. ⌜ Kept 6 m r ⌝ }
-    ensures { λ r. ⌜ r .taken ≡ m .taken ⌝ }
+    ensures { λ r. ⌜ Does 6 (request mhz) m r (now (journal .entry)) (now (journal .exit)) none ⌝ }
 {
     let head = m.head;
     let current = modes::present_mode(head);

@@ -1,14 +1,13 @@
 // rcc/clock_lpsys.rs, `ensure_safe_lcpu_frequency` on a running call.
-ghost use Rattle.journal.specs.Machine.{Ran, Ready, Kept};
+ghost use Rattle.journal.specs.Machine.{Lent, Does, none};
 ghost use Rattle.lpsys_request.specs.slow.{slowDown};
 use journal::Machine;
 use time::Hertz;
 
 // A request of 24 MHz where LPSYS is faster.
 pub fn slow_down(m: Machine, journal: &mut [u32]) -> Machine
-    requires { ⌜ Ready 6 m (now journal) ⌝ }
-    ensures { λ r. ⌜ Ran slowDown m r (now (journal .entry)) (now (journal .exit)) ⌝ }
-    ensures { λ r. ⌜ Kept 6 m r ⌝ }
+    requires { ⌜ Lent 6 m (now journal) none ⌝ }
+    ensures { λ r. ⌜ Does 6 slowDown m r (now (journal .entry)) (now (journal .exit)) none ⌝ }
 {
     let head = m.head;
     let f = clock_read::lpsys::get_lpsys_hclk_freq(head).unwrap_or(Hertz(0));

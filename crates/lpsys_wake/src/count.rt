@@ -1,15 +1,12 @@
 // The count of wakes of the LPSYS core on a running call: one more, one less.
-ghost use mathlib.Core.Path.{_≡_};
 ghost use Rattle.head.specs.Encodable.{Encodable};
-ghost use Rattle.journal.specs.Machine.{Quietly, Kept};
+ghost use Rattle.journal.specs.Machine.{DoesWithoutJournal};
 ghost use Rattle.lpsys_wake.specs.count.{countUp, countDown};
 use journal::Machine;
 
 pub fn count_up(m: Machine) -> Machine
     requires { ⌜ Encodable (m .head) ⌝ }
-    ensures { λ r. ⌜ Quietly countUp m r ⌝ }
-    ensures { λ r. ⌜ Kept 0 m r ⌝ }
-    ensures { λ r. ⌜ r .taken ≡ m .taken ⌝ }
+    ensures { λ r. ⌜ DoesWithoutJournal countUp m r ⌝ }
 {
     let ended = m.stop;
     if ended != 0 {
@@ -28,9 +25,7 @@ pub fn count_up(m: Machine) -> Machine
 
 pub fn count_down(m: Machine) -> Machine
     requires { ⌜ Encodable (m .head) ⌝ }
-    ensures { λ r. ⌜ Quietly countDown m r ⌝ }
-    ensures { λ r. ⌜ Kept 0 m r ⌝ }
-    ensures { λ r. ⌜ r .taken ≡ m .taken ⌝ }
+    ensures { λ r. ⌜ DoesWithoutJournal countDown m r ⌝ }
 {
     let stop = m.stop;
     if stop != 0 {

@@ -1,11 +1,10 @@
 -- `clock_lpsys::ensure_hxt48_ready` meets its contract: the shared tests, then the effect. Assumes nothing.
 use native.Mathlib.Omega.{arith}
-use mathlib.Core.Path.{refl, sym, ap, _∙_}
 use mathlib.Core.List.{[]}
-use borrow.Author.Tests.{lt-ltb, le-ltb}
-use Rattle.record.specs.Refusals.{firstOf}
 use Rattle.record.proofs.Refusals.{no-test}
-use Rattle.call.proofs.Ending.{call-unadmitted, call-refused, call-ran, call-encodable, call-bytes}
+use Rattle.journal.specs.Machine.{taking}
+use Rattle.journal.proofs.Does.{lent-as}
+use Rattle.call.proofs.Ending.{call-unadmitted, call-ran, call-encodable, call-bytes}
 use Rattle.call.proofs.Admitting.{answers-room, started}
 use Rattle.clock_lpsys.specs.Calls.{ensureHxt48}
 use borrow.Author.Needs.{needs}
@@ -26,18 +25,31 @@ same-length-2 c = search needs
 
 returns : tie.Need-returns
 unfolding ensureHxt48
-returns c = call-unadmitted (c .before .before .before .admit-with-answers .ensures) [] _ _ _ _ (c .before .if1 .taken) (c .refused .ensures)
+returns c =
+    let then1 : tie.Then1 = search in
+    let admitted : tie.After-admit-with-answers = search in
+    call-unadmitted (admitted .admit-with-answers .ensures) [] _ _ _ _ (then1 .if1 .taken) (c .refused .ensures)
 
 start-requires : tie.Need-start-requires
 start-requires c κs = search needs
 
 hxt48-ready-requires : tie.Need-hxt48-ready-requires
 hxt48-ready-requires c κs =
-    let room = answers-room (c .before .before .before .before .before .before .before .before .before .before .before .args .buffer .now) (c .before .before .before .before .before .before .before .before .before .before .before .args .journal .now) (c .before .before .before .before .before .before .before .before .before .before .before .args .answers .now) (c .before .before .before .before .before .admit-with-answers .ensures) (c .before .before .before .if1 .left) in
-    (started 4 _ _ _ (c .before .start .ensures) (call-encodable (c .before .before .before .before .before .admit-with-answers .ensures) (c .before .before .before .if1 .left)) (omega arith) (room .0), (rw (c .before .start .ensures) (omega arith), room .1))
+    let begun : tie.After-start = search in
+    let else1 : tie.Else1 = search in
+    let admitted : tie.After-admit-with-answers = search in
+    let start : tie.Start = search in
+    let encodable = call-encodable (admitted .admit-with-answers .ensures) (else1 .if1 .left) in
+    let answers = start .args .answers .now in
+    let room = answers-room (start .args .buffer .now) (start .args .journal .now) answers (admitted .admit-with-answers .ensures) (else1 .if1 .left) in
+    lent-as (taking answers) (started 4 _ _ _ (begun .start .ensures) encodable (omega arith) (room .0)) (rw (begun .start .ensures) (omega arith), room .1)
 
 finish-requires : tie.Need-finish-requires
-finish-requires c κs = (c .before .before .before .hxt48-ready .ensures .1 .encodable, call-bytes (c .before .before .before .before .before .before .before .before .before .admit-with-answers .ensures) (c .before .before .before .before .before .before .before .if1 .left))
+finish-requires c κs =
+    let ready : tie.After-hxt48-ready = search in
+    let else1 : tie.Else1 = search in
+    let admitted : tie.After-admit-with-answers = search in
+    (ready .hxt48-ready .ensures .encodable, call-bytes (admitted .admit-with-answers .ensures) (else1 .if1 .left))
 
 same-length-3 : tie.Need-same-length-3
 same-length-3 c = search needs
@@ -47,7 +59,13 @@ same-length-4 c = search needs
 
 returns-2 : tie.Need-returns-2
 unfolding ensureHxt48
-returns-2 c = call-ran (c .before .before .before .before .before .before .before .before .before .before .before .before .admit-with-answers .ensures) [] _ _ _ _ _ _ _ _ (c .before .before .before .before .before .before .before .before .before .before .if1 .left) no-test (c .before .before .before .before .before .before .before .before .start .ensures) (c .before .before .before .before .before .before .hxt48-ready .ensures .0) (c .before .before .finish .ensures)
+returns-2 c =
+    let finished : tie.After-finish = search in
+    let ready : tie.After-hxt48-ready = search in
+    let begun : tie.After-start = search in
+    let else1 : tie.Else1 = search in
+    let admitted : tie.After-admit-with-answers = search in
+    call-ran (admitted .admit-with-answers .ensures) [] _ _ _ _ _ _ _ _ (else1 .if1 .left) no-test (begun .start .ensures) (ready .hxt48-ready .ensures .ran) (finished .finish .ensures)
 
 pub ensure-hxt48-ready-spec : {M : Type 1} → statement M
 ensure-hxt48-ready-spec =

@@ -13,10 +13,14 @@ config-lpsys-hclk-mhz-requires : tie.Need-config-lpsys-hclk-mhz-requires
 config-lpsys-hclk-mhz-requires c κs = search needs
 
 array-share-prefix-journal : tie.Need-array-share-prefix-journal
-array-share-prefix-journal c = entries-within _ _ _ _ _ _ (c .before .before .before .config-lpsys-hclk-mhz .ensures)
+array-share-prefix-journal c =
+    let answered : tie.After-config-lpsys-hclk-mhz = search in
+    entries-within _ _ _ _ _ _ (answered .config-lpsys-hclk-mhz .ensures)
 
 slice-aggregate-steps : tie.Need-slice-aggregate-steps
-slice-aggregate-steps c = sym (length-take-le _ _ (entries-within _ _ _ _ _ _ (c .before .before .before .before .config-lpsys-hclk-mhz .ensures)))
+slice-aggregate-steps c =
+    let answered : tie.After-config-lpsys-hclk-mhz = search in
+    sym (length-take-le _ _ (entries-within _ _ _ _ _ _ (answered .config-lpsys-hclk-mhz .ensures)))
 
 steps-requires : tie.Need-steps-requires
 steps-requires c κs = search needs

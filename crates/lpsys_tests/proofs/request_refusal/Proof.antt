@@ -5,13 +5,21 @@ use Rattle.lpsys_tests.proofs.request_refusal.Statement.{statement}
 use Rattle.lpsys_tests.proofs.request_refusal.Tie as tie
 
 returns : tie.Need-returns
-returns c = simp (eq-eqb (c .before .args .mhz) 0 (omega (arith, c .if1 .taken)))
+returns c =
+    let start : tie.Start = search in
+    simp (eq-eqb (start .args .mhz) 0 (omega (arith, c .if1 .taken)))
 
 returns-2 : tie.Need-returns-2
-returns-2 c = simp (ne-eqb _ _ (c .before .if1 .left), lt-ltb 48 (c .before .before .args .mhz) (omega arith))
+returns-2 c =
+    let else1 : tie.Else1 = search in
+    let start : tie.Start = search in
+    simp (ne-eqb _ _ (else1 .if1 .left), lt-ltb 48 (start .args .mhz) (omega arith))
 
 returns-3 : tie.Need-returns-3
-returns-3 c = simp (ne-eqb _ _ (c .before .if1 .left), le-ltb 48 (c .before .before .args .mhz) (omega arith))
+returns-3 c =
+    let else1 : tie.Else1 = search in
+    let start : tie.Start = search in
+    simp (ne-eqb _ _ (else1 .if1 .left), le-ltb 48 (start .args .mhz) (omega arith))
 
 pub request-refusal-spec : {M : Type 1} → statement M
 request-refusal-spec = tie.close (tie.spec returns returns-2 returns-3)

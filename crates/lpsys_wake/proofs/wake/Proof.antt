@@ -1,8 +1,6 @@
 -- `lpsys_wake::wake` meets its contract: one step after the other. Assumes nothing.
-use native.Mathlib.Omega.{arith}
-use Rattle.journal.proofs.Reached.{ran-then}
+use Rattle.journal.proofs.Does.{_then_, beside}
 use Rattle.lpsys_wake.specs.Wake.{wake}
-use Rattle.journal.proofs.Does.{clauses, clauses-taking}
 use borrow.Author.Needs.{needs}
 use Rattle.lpsys_wake.proofs.wake.Statement.{statement}
 use Rattle.lpsys_wake.proofs.wake.Tie as tie
@@ -24,10 +22,11 @@ same-length c = search needs
 
 returns : tie.Need-returns
 unfolding wake
-returns c = (
-  ran-then (ran-then (ran-then (c .before .before .before .before .before .before .before .before .before .before .before .wake-first .ensures .0) (clauses (c .before .before .before .before .before .before .before .delay-us .ensures) .0)) (clauses-taking (c .before .before .before .wait-for .ensures) .0)) (c .count-up .ensures .0 _),
-  record { room = omega (arith, c .before .before .before .before .before .before .before .before .before .before .before .wake-first .ensures .1 .0 .room, clauses (c .before .before .before .before .before .before .before .delay-us .ensures) .1 .0 .room, clauses-taking (c .before .before .before .wait-for .ensures) .1 .0 .room, c .count-up .ensures .1 .0 .room); encodable = c .count-up .ensures .1 .0 .encodable },
-)
+returns c =
+    let active : tie.After-wait-for = search in
+    let waited : tie.After-delay-us = search in
+    let requested : tie.After-wake-first = search in
+    requested .wake-first .ensures then waited .delay-us .ensures then active .wait-for .ensures then beside (c .count-up .ensures)
 
 pub wake-spec : {M : Type 1} → statement M
 wake-spec =

@@ -2,11 +2,9 @@
 use Rattle.record.specs.Bytes.{isWithin}
 use Rattle.register.specs.Word.{wordBytes}
 use Rattle.register.specs.Codes.{fitsRegister, largest}
-use native.Mathlib.Omega.{arith}
 use mathlib.Core.Path.{refl}
-use Rattle.journal.proofs.Reached.{ran-then}
+use Rattle.journal.proofs.Does.{_then_}
 use Rattle.lpsys_wake.specs.Wake.{wakeFirst}
-use Rattle.journal.proofs.Does.{clauses, clauses-taking}
 use borrow.Author.Needs.{needs}
 use Rattle.lpsys_wake.proofs.wake_first.Statement.{statement}
 use Rattle.lpsys_wake.proofs.wake_first.Tie as tie
@@ -26,10 +24,11 @@ same-length c = search needs
 
 returns : tie.Need-returns
 unfolding wakeFirst
-returns c = (
-  ran-then (ran-then (clauses (c .before .before .before .before .before .before .before .before .before .before .store .ensures) .0) (clauses (c .before .before .before .before .before .before .delay-us .ensures) .0)) (clauses-taking (c .before .before .wait-for .ensures) .0),
-  (record { room = omega (arith, clauses (c .before .before .before .before .before .before .before .before .before .before .store .ensures) .1 .0 .room, clauses (c .before .before .before .before .before .before .delay-us .ensures) .1 .0 .room, clauses-taking (c .before .before .wait-for .ensures) .1 .0 .room); encodable = clauses-taking (c .before .before .wait-for .ensures) .1 .0 .encodable }, clauses-taking (c .before .before .wait-for .ensures) .1 .1),
-)
+returns c =
+    let active : tie.After-wait-for = search in
+    let waited : tie.After-delay-us = search in
+    let requested : tie.After-store = search in
+    requested .store .ensures then waited .delay-us .ensures then active .wait-for .ensures
 
 pub wake-first-spec : {M : Type 1} → statement M
 wake-first-spec =

@@ -10,7 +10,9 @@ mac-word-requires : tie.Need-mac-word-requires
 mac-word-requires c κs = search needs
 
 store-once-requires : tie.Need-store-once-requires
-store-once-requires c κs = (search needs, λ z. rw (c .before .before .mac-word .ensures) (mac-fits _ _ (search needs) (search needs)))
+store-once-requires c κs =
+    let joined : tie.After-mac-word = search in
+    (search needs, λ z. rw (joined .mac-word .ensures) (mac-fits _ _ (search needs) (search needs)))
 
 same-length : tie.Need-same-length
 same-length c = search needs
@@ -20,7 +22,10 @@ same-length-2 c = search needs
 
 returns : tie.Need-returns
 unfolding configMac
-returns c = rw (c .before .before .before .before .before .before .before .mac-word .ensures, no-own-test) at (c .before .before .before .before .store-once .ensures)
+returns c =
+    let stored : tie.After-store-once = search in
+    let joined : tie.After-mac-word = search in
+    rw (joined .mac-word .ensures, no-own-test) at (stored .store-once .ensures)
 
 pub config-lpsys-mac-clock-spec : {M : Type 1} → statement M
 config-lpsys-mac-clock-spec =

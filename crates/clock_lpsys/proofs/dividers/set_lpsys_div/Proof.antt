@@ -13,7 +13,10 @@ div-word-requires : tie.Need-div-word-requires
 div-word-requires c κs = search needs
 
 store-once-requires : tie.Need-store-once-requires
-store-once-requires c κs = (search needs, λ z. rw (c .before .before .div-word .ensures) (div-fits _ _ _ (search needs) (sym (c .before .before .before .div-refusal .ensures) ∙ z)))
+store-once-requires c κs =
+    let joined : tie.After-div-word = search in
+    let tested : tie.After-div-refusal = search in
+    (search needs, λ z. rw (joined .div-word .ensures) (div-fits _ _ _ (search needs) (sym (tested .div-refusal .ensures) ∙ z)))
 
 same-length : tie.Need-same-length
 same-length c = search needs
@@ -23,7 +26,11 @@ same-length-2 c = search needs
 
 returns : tie.Need-returns
 unfolding setLpsysDiv
-returns c = rw (c .before .before .before .before .before .before .before .div-word .ensures, c .before .before .before .before .before .before .before .before .div-refusal .ensures) at (c .before .before .before .before .store-once .ensures)
+returns c =
+    let stored : tie.After-store-once = search in
+    let joined : tie.After-div-word = search in
+    let tested : tie.After-div-refusal = search in
+    rw (joined .div-word .ensures, tested .div-refusal .ensures) at (stored .store-once .ensures)
 
 pub set-lpsys-div-spec : {M : Type 1} → statement M
 set-lpsys-div-spec =

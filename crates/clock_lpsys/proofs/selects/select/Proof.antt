@@ -10,7 +10,10 @@ source-refusal-requires : tie.Need-source-refusal-requires
 source-refusal-requires c κs = search needs
 
 store-once-requires : tie.Need-store-once-requires
-store-once-requires c κs = (search needs, λ z. source-fits _ (c .before .before .before .before .before .pre .1 .0) (c .before .before .before .before .before .pre .1 .1) _ (sym (c .before .before .source-refusal .ensures) ∙ z))
+store-once-requires c κs =
+    let tested : tie.After-source-refusal = search in
+    let start : tie.Start = search in
+    (search needs, λ z. source-fits _ (start .pre .1 .0) (start .pre .1 .1) _ (sym (tested .source-refusal .ensures) ∙ z))
 
 same-length : tie.Need-same-length
 same-length c = search needs
@@ -20,7 +23,10 @@ same-length-2 c = search needs
 
 returns : tie.Need-returns
 unfolding select
-returns c = rw (c .before .before .before .before .before .before .before .source-refusal .ensures) at (c .before .before .before .before .store-once .ensures)
+returns c =
+    let stored : tie.After-store-once = search in
+    let tested : tie.After-source-refusal = search in
+    rw (tested .source-refusal .ensures) at (stored .store-once .ensures)
 
 pub select-spec : {M : Type 1} → statement M
 select-spec =

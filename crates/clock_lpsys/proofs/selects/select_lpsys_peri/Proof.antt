@@ -18,7 +18,9 @@ same-length-2 : tie.Need-same-length-2
 same-length-2 c = search needs
 
 returns : tie.Need-returns
-returns c = c .before .before .before .before .select .ensures
+returns c =
+    let selected : tie.After-select = search in
+    selected .select .ensures
 
 pub select-lpsys-peri-spec : {M : Type 1} → statement M
 select-lpsys-peri-spec = tie.close (tie.spec select-requires same-length same-length-2 returns)

@@ -2,11 +2,9 @@
 use Rattle.record.specs.Bytes.{isWithin}
 use Rattle.register.specs.Word.{wordBytes}
 use Rattle.register.specs.Codes.{fitsRegister, largest}
-use native.Mathlib.Omega.{arith}
-use mathlib.Core.Path.{refl, _∙_}
-use Rattle.journal.proofs.Reached.{ran-then}
+use mathlib.Core.Path.{refl}
 use Rattle.dvfs_lpsys.specs.switch.{lpsysD2sFirst}
-use Rattle.journal.proofs.Does.{clauses}
+use Rattle.journal.proofs.Does.{_then_}
 use borrow.Author.Needs.{needs}
 use Rattle.dvfs_lpsys.proofs.switch.switch_lpsys_dvfs_d2s_first.Statement.{statement}
 use Rattle.dvfs_lpsys.proofs.switch.switch_lpsys_dvfs_d2s_first.Tie as tie
@@ -19,7 +17,9 @@ cast-store c = search needs
 
 store-requires : tie.Need-store-requires
 unfolding fitsRegister isWithin wordBytes largest
-store-requires c κs = (search needs, (search needs, rw (c .before .before .get-config .ensures) refl))
+store-requires c κs =
+    let found : tie.After-get-config = search in
+    (search needs, (search needs, rw (found .get-config .ensures) refl))
 
 store-requires-2 : tie.Need-store-requires-2
 unfolding fitsRegister isWithin wordBytes largest
@@ -33,10 +33,12 @@ same-length c = search needs
 
 returns : tie.Need-returns
 unfolding lpsysD2sFirst
-returns c = (
-  ran-then (ran-then (rw (c .before .before .before .before .before .before .before .before .before .before .before .before .before .get-config .ensures) at (clauses (c .before .before .before .before .before .before .before .before .before .before .store .ensures) .0)) (clauses (c .before .before .before .before .before .before .store2 .ensures) .0)) (clauses (c .before .before .delay-us .ensures) .0),
-  (record { room = omega (arith, clauses (c .before .before .before .before .before .before .before .before .before .before .store .ensures) .1 .0 .room, clauses (c .before .before .before .before .before .before .store2 .ensures) .1 .0 .room, clauses (c .before .before .delay-us .ensures) .1 .0 .room); encodable = clauses (c .before .before .delay-us .ensures) .1 .0 .encodable }, clauses (c .before .before .delay-us .ensures) .1 .1 ∙ (clauses (c .before .before .before .before .before .before .store2 .ensures) .1 .1 ∙ clauses (c .before .before .before .before .before .before .before .before .before .before .store .ensures) .1 .1)),
-)
+returns c =
+    let waited : tie.After-delay-us = search in
+    let switched : tie.After-store2 = search in
+    let raised : tie.After-store = search in
+    let found : tie.After-get-config = search in
+    (rw (found .get-config .ensures) at (raised .store .ensures)) then switched .store2 .ensures then waited .delay-us .ensures
 
 pub switch-lpsys-dvfs-d2s-first-spec : {M : Type 1} → statement M
 switch-lpsys-dvfs-d2s-first-spec =

@@ -2,11 +2,9 @@
 use Rattle.record.specs.Bytes.{isWithin}
 use Rattle.register.specs.Word.{wordBytes}
 use Rattle.register.specs.Codes.{fitsRegister, largest}
-use native.Mathlib.Omega.{arith}
-use mathlib.Core.Path.{refl, _∙_}
-use Rattle.journal.proofs.Reached.{ran-then}
+use mathlib.Core.Path.{refl}
 use Rattle.dvfs_lpsys.specs.switch.{lpsysS2dSecond}
-use Rattle.journal.proofs.Does.{clauses}
+use Rattle.journal.proofs.Does.{_then_}
 use borrow.Author.Needs.{needs}
 use Rattle.dvfs_lpsys.proofs.switch.switch_lpsys_dvfs_s2d_second.Statement.{statement}
 use Rattle.dvfs_lpsys.proofs.switch.switch_lpsys_dvfs_s2d_second.Tie as tie
@@ -16,7 +14,9 @@ get-config-requires c κs = search needs
 
 store-requires : tie.Need-store-requires
 unfolding fitsRegister isWithin wordBytes largest
-store-requires c κs = (search needs, (search needs, rw (c .before .get-config .ensures) refl))
+store-requires c κs =
+    let found : tie.After-get-config = search in
+    (search needs, (search needs, rw (found .get-config .ensures) refl))
 
 store-requires-2 : tie.Need-store-requires-2
 unfolding fitsRegister isWithin wordBytes largest
@@ -27,10 +27,11 @@ same-length c = search needs
 
 returns : tie.Need-returns
 unfolding lpsysS2dSecond
-returns c = (
-  ran-then (rw (c .before .before .before .before .before .before .before .before .get-config .ensures) at (clauses (c .before .before .before .before .before .before .store .ensures) .0)) (clauses (c .before .before .store2 .ensures) .0),
-  (record { room = omega (arith, clauses (c .before .before .before .before .before .before .store .ensures) .1 .0 .room, clauses (c .before .before .store2 .ensures) .1 .0 .room); encodable = clauses (c .before .before .store2 .ensures) .1 .0 .encodable }, clauses (c .before .before .store2 .ensures) .1 .1 ∙ clauses (c .before .before .before .before .before .before .store .ensures) .1 .1),
-)
+returns c =
+    let switched : tie.After-store2 = search in
+    let timed : tie.After-store = search in
+    let found : tie.After-get-config = search in
+    (rw (found .get-config .ensures) at (timed .store .ensures)) then switched .store2 .ensures
 
 pub switch-lpsys-dvfs-s2d-second-spec : {M : Type 1} → statement M
 switch-lpsys-dvfs-s2d-second-spec =

@@ -1,4 +1,6 @@
 -- `lpsys_request::frequency::config_lpsys_hclk_mhz` meets its contract: the shared tests, 15, then the request. Assumes nothing.
+use Rattle.journal.specs.Machine.{none}
+use Rattle.journal.proofs.Does.{lent-as}
 use Rattle.call.proofs.Admitting.{journal-room, started}
 use native.Mathlib.Omega.{arith}
 use mathlib.Core.Path.{sym, _∙_}
@@ -24,7 +26,10 @@ same-length-2 c = search needs
 
 returns : tie.Need-returns
 unfolding lpsysRequest
-returns c = call-unadmitted (c .before .before .before .admit .ensures) _ _ _ _ _ (c .before .if1 .taken) (c .refused .ensures)
+returns c =
+    let then1 : tie.Then1 = search in
+    let admitted : tie.After-admit = search in
+    call-unadmitted (admitted .admit .ensures) _ _ _ _ _ (then1 .if1 .taken) (c .refused .ensures)
 
 request-refusal-requires : tie.Need-request-refusal-requires
 request-refusal-requires c κs = search needs
@@ -40,17 +45,37 @@ same-length-4 c = search needs
 
 returns-2 : tie.Need-returns-2
 unfolding lpsysRequest
-returns-2 c = call-refused-by (c .before .before .before .before .before .admit .ensures) (requestTests (c .before .before .before .before .before .before .before .before .before .before .args .freq .0)) _ _ _ _ _ (c .before .before .before .if1 .left) (only-test _ ∙ sym (c .before .before .request-refusal .ensures)) (c .before .if2 .taken) (c .refused2 .ensures)
+returns-2 c =
+    let then2 : tie.Then2 = search in
+    let tested : tie.After-request-refusal = search in
+    let else1 : tie.Else1 = search in
+    let admitted : tie.After-admit = search in
+    let start : tie.Start = search in
+    let test = only-test _ ∙ sym (tested .request-refusal .ensures) in
+    call-refused-by (admitted .admit .ensures) (requestTests (start .args .freq .0)) _ _ _ _ _ (else1 .if1 .left) test (then2 .if2 .taken) (c .refused2 .ensures)
 
 start-requires : tie.Need-start-requires
 start-requires c κs = search needs
 
 request-requires : tie.Need-request-requires
 request-requires c κs =
-    (started 6 _ _ _ (c .before .start .ensures) (call-encodable (c .before .before .before .before .before .before .before .admit .ensures) (c .before .before .before .before .before .if1 .left)) (omega arith) (journal-room (c .before .before .before .before .before .before .before .before .before .before .before .before .args .buffer .now) (c .before .before .before .before .before .before .before .before .before .before .before .before .args .journal .now) (c .before .before .before .before .before .before .before .admit .ensures) (c .before .before .before .before .before .if1 .left)), request-range _ (sym (c .before .before .before .before .request-refusal .ensures) ∙ c .before .before .before .if2 .left))
+    let begun : tie.After-start = search in
+    let else2 : tie.Else2 = search in
+    let tested : tie.After-request-refusal = search in
+    let else1 : tie.Else1 = search in
+    let admitted : tie.After-admit = search in
+    let start : tie.Start = search in
+    let encodable = call-encodable (admitted .admit .ensures) (else1 .if1 .left) in
+    let room = journal-room (start .args .buffer .now) (start .args .journal .now) (admitted .admit .ensures) (else1 .if1 .left) in
+    let ready = started 6 _ _ _ (begun .start .ensures) encodable (omega arith) room in
+    (lent-as none ready tt, request-range _ (sym (tested .request-refusal .ensures) ∙ else2 .if2 .left))
 
 finish-requires : tie.Need-finish-requires
-finish-requires c κs = (c .before .before .before .request .ensures .1 .0 .encodable, call-bytes (c .before .before .before .before .before .before .before .before .before .before .before .admit .ensures) (c .before .before .before .before .before .before .before .before .before .if1 .left))
+finish-requires c κs =
+    let requested : tie.After-request = search in
+    let else1 : tie.Else1 = search in
+    let admitted : tie.After-admit = search in
+    (requested .request .ensures .encodable, call-bytes (admitted .admit .ensures) (else1 .if1 .left))
 
 same-length-5 : tie.Need-same-length-5
 same-length-5 c = search needs
@@ -61,7 +86,17 @@ same-length-6 c = search needs
 returns-3 : tie.Need-returns-3
 unfolding lpsysRequest
 returns-3 c =
-    call-ran (c .before .before .before .before .before .before .before .before .before .before .before .before .before .before .admit .ensures) (requestTests (c .before .before .before .before .before .before .before .before .before .before .before .before .before .before .before .before .before .before .before .args .freq .0)) _ _ _ _ _ _ _ _ (c .before .before .before .before .before .before .before .before .before .before .before .before .if1 .left) (only-test _ ∙ sym (c .before .before .before .before .before .before .before .before .before .before .before .request-refusal .ensures) ∙ c .before .before .before .before .before .before .before .before .before .before .if2 .left) (c .before .before .before .before .before .before .before .before .start .ensures) (c .before .before .before .before .before .before .request .ensures .0) (c .before .before .finish .ensures)
+    let finished : tie.After-finish = search in
+    let requested : tie.After-request = search in
+    let begun : tie.After-start = search in
+    let else2 : tie.Else2 = search in
+    let tested : tie.After-request-refusal = search in
+    let else1 : tie.Else1 = search in
+    let admitted : tie.After-admit = search in
+    let start : tie.Start = search in
+    let test = only-test _ ∙ sym (tested .request-refusal .ensures) ∙ else2 .if2 .left in
+    call-ran (admitted .admit .ensures) (requestTests (start .args .freq .0)) _ _ _ _ _ _ _ _ (else1 .if1 .left) test (begun .start .ensures)
+    (requested .request .ensures .ran) (finished .finish .ensures)
 
 pub config-lpsys-hclk-mhz-spec : {M : Type 1} → statement M
 config-lpsys-hclk-mhz-spec =

@@ -8,6 +8,8 @@ use Rattle.time.specs.declared.Reading.{Reading}
 use Rattle.time.specs.declared.Reading.the-variants.{At, Unreadable}
 use Rattle.clock_read.specs.lpsys.{lpsysHclkOf}
 use Rattle.call.proofs.Ending.{call-unadmitted, call-refused, call-ran, call-encodable, call-bytes, call-head}
+use Rattle.journal.specs.Machine.{none}
+use Rattle.journal.proofs.Does.{lent-as}
 use Rattle.call.proofs.Admitting.{journal-room, started}
 use Rattle.lpsys_request.specs.frequency.{safeTests, safeFrequency}
 use borrow.Author.Needs.{needs}
@@ -28,7 +30,11 @@ same-length-2 c = search needs
 
 returns : tie.Need-returns
 unfolding safeFrequency
-returns c = call-unadmitted (c .before .before .before .admit .ensures) (safeTests (c .before .before .before .before .before .before .before .before .args .buffer .now)) _ _ _ _ (c .before .if1 .taken) (c .refused .ensures)
+returns c =
+    let then1 : tie.Then1 = search in
+    let admitted : tie.After-admit = search in
+    let start : tie.Start = search in
+    call-unadmitted (admitted .admit .ensures) (safeTests (start .args .buffer .now)) _ _ _ _ (then1 .if1 .taken) (c .refused .ensures)
 
 get-lpsys-hclk-freq-requires : tie.Need-get-lpsys-hclk-freq-requires
 get-lpsys-hclk-freq-requires c κs = search needs
@@ -51,17 +57,34 @@ same-length-4 c = search needs
 returns-2 : tie.Need-returns-2
 unfolding safeFrequency firstOf
 returns-2 c =
-    let none = ap lpsysHclkOf (sym (call-head (c .before .before .before .before .before .before .before .admit .ensures) (c .before .before .before .before .before .if1 .left))) ∙ (sym (c .before .before .before .get-lpsys-hclk-freq .ensures) ∙ c .before .enum-told .given .1) in
-    call-refused (c .before .before .before .before .before .before .before .admit .ensures) (safeTests (c .before .before .before .before .before .before .before .before .before .before .before .before .args .buffer .now)) 42 _ _ _ _ (c .before .before .before .before .before .if1 .left) (simp none) (c .refused2 .ensures)
+    let unread : tie.After-enum-told = search in
+    let read : tie.After-get-lpsys-hclk-freq = search in
+    let else1 : tie.Else1 = search in
+    let admitted : tie.After-admit = search in
+    let start : tie.Start = search in
+    let head = call-head (admitted .admit .ensures) (else1 .if1 .left) in
+    let reading = ap lpsysHclkOf (sym head) ∙ (sym (read .get-lpsys-hclk-freq .ensures) ∙ unread .enum-told .given .1) in
+    call-refused (admitted .admit .ensures) (safeTests (start .args .buffer .now)) 42 _ _ _ _ (else1 .if1 .left) (simp reading) (c .refused2 .ensures)
 
 start-requires : tie.Need-start-requires
 start-requires c κs = search needs
 
 slow-down-requires : tie.Need-slow-down-requires
-slow-down-requires c κs = started 6 _ _ _ (c .before .start .ensures) (call-encodable (c .before .before .before .before .before .before .before .before .before .admit .ensures) (c .before .before .before .before .before .before .before .if1 .left)) (omega arith) (journal-room (c .before .before .before .before .before .before .before .before .before .before .before .before .before .before .args .buffer .now) (c .before .before .before .before .before .before .before .before .before .before .before .before .before .before .args .journal .now) (c .before .before .before .before .before .before .before .before .before .admit .ensures) (c .before .before .before .before .before .before .before .if1 .left))
+slow-down-requires c κs =
+    let begun : tie.After-start = search in
+    let else1 : tie.Else1 = search in
+    let admitted : tie.After-admit = search in
+    let start : tie.Start = search in
+    let encodable = call-encodable (admitted .admit .ensures) (else1 .if1 .left) in
+    let room = journal-room (start .args .buffer .now) (start .args .journal .now) (admitted .admit .ensures) (else1 .if1 .left) in
+    lent-as none (started 6 _ _ _ (begun .start .ensures) encodable (omega arith) room) tt
 
 finish-requires : tie.Need-finish-requires
-finish-requires c κs = (c .before .before .before .slow-down .ensures .1 .encodable, call-bytes (c .before .before .before .before .before .before .before .before .before .before .before .before .before .admit .ensures) (c .before .before .before .before .before .before .before .before .before .before .before .if1 .left))
+finish-requires c κs =
+    let slowed : tie.After-slow-down = search in
+    let else1 : tie.Else1 = search in
+    let admitted : tie.After-admit = search in
+    (slowed .slow-down .ensures .encodable, call-bytes (admitted .admit .ensures) (else1 .if1 .left))
 
 same-length-5 : tie.Need-same-length-5
 same-length-5 c = search needs
@@ -72,8 +95,18 @@ same-length-6 c = search needs
 returns-3 : tie.Need-returns-3
 unfolding safeFrequency
 returns-3 c =
-    let reads = ap lpsysHclkOf (sym (call-head (c .before .before .before .before .before .before .before .before .before .before .before .before .before .before .before .before .admit .ensures) (c .before .before .before .before .before .before .before .before .before .before .before .before .before .before .if1 .left))) ∙ (sym (c .before .before .before .before .before .before .before .before .before .before .before .before .get-lpsys-hclk-freq .ensures) ∙ c .before .before .before .before .before .before .before .before .before .before .f .given .1) in
-    simp reads (call-ran (c .before .before .before .before .before .before .before .before .before .before .before .before .before .before .before .before .admit .ensures) (0 ∷ []) _ _ _ _ _ _ _ _ (c .before .before .before .before .before .before .before .before .before .before .before .before .before .before .if1 .left) (only-test 0) (c .before .before .before .before .before .before .before .before .start .ensures) (c .before .before .before .before .before .before .slow-down .ensures .0) (c .before .before .finish .ensures))
+    let finished : tie.After-finish = search in
+    let slowed : tie.After-slow-down = search in
+    let begun : tie.After-start = search in
+    let found : tie.After-f = search in
+    let read : tie.After-get-lpsys-hclk-freq = search in
+    let else1 : tie.Else1 = search in
+    let admitted : tie.After-admit = search in
+    let start : tie.Start = search in
+    let head = call-head (admitted .admit .ensures) (else1 .if1 .left) in
+    let reading = ap lpsysHclkOf (sym head) ∙ (sym (read .get-lpsys-hclk-freq .ensures) ∙ found .f .given .1) in
+    simp reading (call-ran (admitted .admit .ensures) (0 ∷ []) _ _ _ _ _ _ _ _ (else1 .if1 .left) (only-test 0) (begun .start .ensures)
+    (slowed .slow-down .ensures .ran) (finished .finish .ensures))
 
 pub ensure-safe-lcpu-frequency-spec : {M : Type 1} → statement M
 ensure-safe-lcpu-frequency-spec =

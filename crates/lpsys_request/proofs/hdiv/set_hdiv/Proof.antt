@@ -1,13 +1,7 @@
 -- `lpsys_request::hdiv::set_hdiv` meets its contract: the two exponents stay. Assumes nothing.
-use mathlib.Core.Path.{refl, ap}
-use Rattle.register.specs.Word.{wordOf, byteB, byteC}
-use Rattle.clock_read.specs.Hpsys.{reg}
-use Rattle.journal.specs.declared.Machine.{Machine}
-use Rattle.journal.specs.Run.{store}
-use Rattle.journal.proofs.Reached.{ran-as}
-use Rattle.lpsys_request.specs.hdiv.{setHdiv}
+use Rattle.journal.proofs.Does.{by-head}
+use Rattle.lpsys_request.specs.hdiv.{setHdivOn, setHdiv}
 use Rattle.lpsys_request.proofs.hdiv.Fits.{hdiv-fits}
-use Rattle.journal.proofs.Does.{clauses}
 use borrow.Author.Needs.{needs}
 use Rattle.lpsys_request.proofs.hdiv.set_hdiv.Statement.{statement}
 use Rattle.lpsys_request.proofs.hdiv.set_hdiv.Tie as tie
@@ -25,7 +19,13 @@ word-requires : tie.Need-word-requires
 word-requires c κs = search needs
 
 store-requires : tie.Need-store-requires
-store-requires c κs = (search needs, (search needs, simp (c .before .word .ensures, c .before .before .before .b .ensures, c .before .before .c .ensures) (hdiv-fits _ (c .before .before .before .before .before .before .before .args .m .head) (search needs) (c .before .before .before .before .before .before .before .pre .encodable))))
+store-requires c κs =
+    let joined : tie.After-word = search in
+    let second : tie.After-c = search in
+    let first : tie.After-b = search in
+    let start : tie.Start = search in
+    let fits = hdiv-fits (start .args .hdiv) (start .args .m .head) (search needs) (start .pre .encodable) in
+    (search needs, (search needs, simp (joined .word .ensures, first .b .ensures, second .c .ensures) fits))
 
 same-length : tie.Need-same-length
 same-length c = search needs
@@ -33,7 +33,12 @@ same-length c = search needs
 returns : tie.Need-returns
 unfolding setHdiv
 returns c =
-    (ran-as (λ r q. simp (c .before .before .before .before .word .ensures, c .before .before .before .before .before .before .b .ensures, c .before .before .before .before .before .c .ensures) (ap (λ (w : Machine). store 26 (wordOf (c .before .before .before .before .before .before .before .before .before .before .args .hdiv) (byteB (reg (w .head) 26)) (byteC (reg (w .head) 26))) r) q)) (clauses (c .before .before .store .ensures) .0), clauses (c .before .before .store .ensures) .1)
+    let stored : tie.After-store = search in
+    let joined : tie.After-word = search in
+    let second : tie.After-c = search in
+    let first : tie.After-b = search in
+    let start : tie.Start = search in
+    by-head (setHdivOn (start .args .hdiv)) (simp (joined .word .ensures, first .b .ensures, second .c .ensures) at (stored .store .ensures))
 
 pub set-hdiv-spec : {M : Type 1} → statement M
 set-hdiv-spec =

@@ -20,19 +20,28 @@ mul-target c = search needs
 
 returns : tie.Need-returns
 unfolding dividerFor
-returns c = simp (← c .before .before .get-lpsys-sysclk-freq .ensures, ← c .before .unwrap-or .ensures, le-leb _ _ (c .if1 .taken))
+returns c =
+    let found : tie.After-unwrap-or = search in
+    let read : tie.After-get-lpsys-sysclk-freq = search in
+    simp (← read .get-lpsys-sysclk-freq .ensures, ← found .unwrap-or .ensures, le-leb _ _ (c .if1 .taken))
 
 div-result : tie.Need-div-result
 div-result c = search needs
 
 cast-result : tie.Need-cast-result
 cast-result c =
-    let source = c .before .unwrap-or .ensures ∙ (ap (λ f. hzOr 48000000 f) (c .before .before .get-lpsys-sysclk-freq .ensures) ∙ source-48 (c .before .before .before .args .h)) in
-    rw source (omega (arith, divider-most (c .before .before .before .args .mhz) (c .before .before .before .pre .0)))
+    let found : tie.After-unwrap-or = search in
+    let read : tie.After-get-lpsys-sysclk-freq = search in
+    let start : tie.Start = search in
+    let source = found .unwrap-or .ensures ∙ (ap (λ f. hzOr 48000000 f) (read .get-lpsys-sysclk-freq .ensures) ∙ source-48 (start .args .h)) in
+    rw source (omega (arith, divider-most (start .args .mhz) (start .pre .0)))
 
 returns-2 : tie.Need-returns-2
 unfolding dividerFor
-returns-2 c = simp (← c .before .before .get-lpsys-sysclk-freq .ensures, ← c .before .unwrap-or .ensures, lt-leb _ _ (c .if1 .left))
+returns-2 c =
+    let found : tie.After-unwrap-or = search in
+    let read : tie.After-get-lpsys-sysclk-freq = search in
+    simp (← read .get-lpsys-sysclk-freq .ensures, ← found .unwrap-or .ensures, lt-leb _ _ (c .if1 .left))
 
 pub divider-for-spec : {M : Type 1} → statement M
 divider-for-spec =

@@ -18,7 +18,11 @@ mode-or-requires c κs = search needs
 
 returns : tie.Need-returns
 unfolding presentMode
-returns c = simp (c .mode-or .ensures, c .before .from-hertz .ensures, c .before .before .unwrap-or .ensures, c .before .before .before .get-lpsys-hclk-freq .ensures)
+returns c =
+    let mode : tie.After-from-hertz = search in
+    let found : tie.After-unwrap-or = search in
+    let read : tie.After-get-lpsys-hclk-freq = search in
+    simp (c .mode-or .ensures, mode .from-hertz .ensures, found .unwrap-or .ensures, read .get-lpsys-hclk-freq .ensures)
 
 pub present-mode-spec : {M : Type 1} → statement M
 present-mode-spec =

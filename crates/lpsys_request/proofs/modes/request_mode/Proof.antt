@@ -12,7 +12,9 @@ mode-or-requires c κs = search needs
 
 returns : tie.Need-returns
 unfolding requestMode
-returns c = simp (c .mode-or .ensures, c .before .from-frequency .ensures)
+returns c =
+    let mode : tie.After-from-frequency = search in
+    simp (c .mode-or .ensures, mode .from-frequency .ensures)
 
 pub request-mode-spec : {M : Type 1} → statement M
 request-mode-spec = tie.close (tie.spec from-frequency-requires mode-or-requires returns)

@@ -12,7 +12,9 @@ use Rattle.lpsys_wake.proofs.count.count_up.Tie as tie
 
 returns : tie.Need-returns
 unfolding countUp
-returns c = (λ j. ran-ended _ (c .before .args .m) j (c .if1 .taken), (record { room = omega arith; encodable = c .before .pre }, refl))
+returns c =
+    let start : tie.Start = search in
+    record { ran = λ j. ran-ended _ (start .args .m) j (c .if1 .taken); room = omega arith; encodable = start .pre; answers = refl }
 
 cast-head : tie.Need-cast-head
 cast-head c = search needs
@@ -26,10 +28,15 @@ cast-head-2 c = search needs
 returns-2 : tie.Need-returns-2
 unfolding countUp
 returns-2 c =
-    let e = c .before .before .pre in (
-      λ j. ran-headed (λ (h : Head). counted ((h .«wake_count» + 1) % 256) h) (c .before .before .args .m) j (c .before .if1 .left),
-      (record { room = omega arith; encodable = same-tasks-encodable e (e .words) (e .codes) (e .boot) (omega arith) refl refl }, refl),
-    )
+    let running : tie.Else1 = search in
+    let start : tie.Start = search in
+    let e = start .pre in
+    record {
+      ran = λ j. ran-headed (λ (h : Head). counted ((h .«wake_count» + 1) % 256) h) (start .args .m) j (running .if1 .left);
+      room = omega arith;
+      encodable = same-tasks-encodable e (e .words) (e .codes) (e .boot) (omega arith) refl refl;
+      answers = refl;
+    }
 
 pub count-up-spec : {M : Type 1} → statement M
 count-up-spec = tie.close (tie.spec returns cast-head add-head cast-head-2 returns-2)

@@ -1,6 +1,5 @@
 -- `lpsys_wake::hxt48::hxt48_ready` meets its contract: one domain after the other. Assumes nothing.
-use native.Mathlib.Omega.{arith}
-use Rattle.journal.proofs.Reached.{ran-then}
+use Rattle.journal.proofs.Does.{_then_}
 use Rattle.lpsys_wake.specs.hxt48.{hxt48Ready}
 use borrow.Author.Needs.{needs}
 use Rattle.lpsys_wake.proofs.hxt48.hxt48_ready.Statement.{statement}
@@ -17,10 +16,10 @@ same-length c = search needs
 
 returns : tie.Need-returns
 unfolding hxt48Ready
-returns c = (
-  ran-then (c .before .before .before .before .before .before .request-hxt48 .ensures .0) (c .before .before .request-lpsys-hxt48 .ensures .0),
-  record { room = omega (arith, c .before .before .before .before .before .before .request-hxt48 .ensures .1 .0 .room, c .before .before .request-lpsys-hxt48 .ensures .1 .0 .room); encodable = c .before .before .request-lpsys-hxt48 .ensures .1 .0 .encodable },
-)
+returns c =
+    let both : tie.After-request-lpsys-hxt48 = search in
+    let hpsys : tie.After-request-hxt48 = search in
+    hpsys .request-hxt48 .ensures then both .request-lpsys-hxt48 .ensures
 
 pub hxt48-ready-spec : {M : Type 1} → statement M
 hxt48-ready-spec =

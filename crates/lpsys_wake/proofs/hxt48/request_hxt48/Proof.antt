@@ -2,15 +2,11 @@
 use Rattle.record.specs.Bytes.{isWithin}
 use Rattle.register.specs.Word.{wordBytes}
 use Rattle.register.specs.Codes.{fitsRegister, largest}
-use native.Mathlib.Omega.{arith}
-use mathlib.Core.Path.{_≡_, refl, ap, sym, _∙_}
-use mathlib.Core.Bool.{true, false}
-use Rattle.journal.specs.declared.Machine.{Machine}
-use Rattle.journal.specs.Run.{Run}
-use Rattle.journal.specs.Machine.{machineOf}
-use Rattle.journal.proofs.Reached.{ran-as, ran-then, ran-idle}
-use Rattle.lpsys_wake.specs.hxt48.{requestHxt48}
-use Rattle.journal.proofs.Does.{clauses, clauses-taking}
+use mathlib.Core.Path.{refl}
+use Rattle.head.specs.declared.Head.{Head}
+use Rattle.journal.proofs.Does.{_then_, does-nothing}
+use Rattle.lpsys_wake.specs.hxt48.{requestHxt48Unless, requestHxt48}
+use Rattle.lpsys_wake.proofs.Flag.{by-flag}
 use borrow.Author.Needs.{needs}
 use Rattle.lpsys_wake.proofs.hxt48.request_hxt48.Statement.{statement}
 use Rattle.lpsys_wake.proofs.hxt48.request_hxt48.Tie as tie
@@ -18,8 +14,8 @@ use Rattle.lpsys_wake.proofs.hxt48.request_hxt48.Tie as tie
 returns : tie.Need-returns
 unfolding requestHxt48
 returns c =
-    let flag : (r : Run) → c .before .before .before .before .args .m ≡ machineOf r → r .head .«hxt48_ready» ≡ true = λ r q. ap (λ (w : Machine). w .head .«hxt48_ready») (sym q) ∙ c .if1 .taken in
-    (ran-as (λ r q. simp (flag r q)) (ran-idle _ _), (record { room = omega arith; encodable = c .before .before .before .before .pre .0 .encodable }, search needs))
+    let start : tie.Start = search in
+    by-flag (λ (h : Head). h .«hxt48_ready») (requestHxt48Unless (start .args .answers .now)) (c .if1 .taken) (does-nothing (start .pre))
 
 store-requires : tie.Need-store-requires
 unfolding fitsRegister isWithin wordBytes largest
@@ -34,10 +30,12 @@ same-length c = search needs
 returns-2 : tie.Need-returns-2
 unfolding requestHxt48
 returns-2 c =
-    let flag : (r : Run) → c .before .before .before .before .before .before .before .before .before .before .before .before .args .m ≡ machineOf r → r .head .«hxt48_ready» ≡ false = λ r q. ap (λ (w : Machine). w .head .«hxt48_ready») (sym q) ∙ c .before .before .before .before .before .before .before .before .if1 .left in (
-      ran-as (λ r q. simp (flag r q)) (ran-then (clauses (c .before .before .before .before .before .before .store .ensures) .0) (clauses-taking (c .before .before .wait-hxt48 .ensures) .0)),
-      (record { room = omega (arith, clauses (c .before .before .before .before .before .before .store .ensures) .1 .0 .room, clauses-taking (c .before .before .wait-hxt48 .ensures) .1 .0 .room); encodable = clauses-taking (c .before .before .wait-hxt48 .ensures) .1 .0 .encodable }, clauses-taking (c .before .before .wait-hxt48 .ensures) .1 .1),
-    )
+    let waited : tie.After-wait-hxt48 = search in
+    let requested : tie.After-store = search in
+    let unready : tie.Else1 = search in
+    let start : tie.Start = search in
+    let done = requested .store .ensures then waited .wait-hxt48 .ensures in
+    by-flag (λ (h : Head). h .«hxt48_ready») (requestHxt48Unless (start .args .answers .now)) (unready .if1 .left) done
 
 pub request-hxt48-spec : {M : Type 1} → statement M
 request-hxt48-spec =
