@@ -13,13 +13,12 @@ pub fn config_lpsys_hclk_mhz(buffer: &mut [u8], freq: Megahertz, journal: &mut [
     if admitted.refusal != 0 {
         return Answer::refused(admitted.refusal);
     }
-    let mhz = freq.0;
-    let refusal = lpsys_tests::request_refusal(mhz);
+    let refusal = lpsys_tests::request_refusal(freq);
     if refusal != 0 {
         return Answer::refused(refusal);
     }
     let head = admitted.head;
-    let m = crate::request(call::start(head), journal, mhz);
+    let m = crate::request(call::start(head), journal, freq);
     call::finish(m, 0, buffer)
 }
 

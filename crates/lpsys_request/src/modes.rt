@@ -24,21 +24,19 @@ pub fn present_mode(h: Head) -> LpsysDvfsMode
     mode_or(LpsysDvfsMode::from_hertz(f), LpsysDvfsMode::S)
 }
 
-pub fn request_mode(mhz: u32) -> LpsysDvfsMode
-    ensures { λ r. ⌜ r ≡ requestMode mhz ⌝ }
+pub fn request_mode(freq: Megahertz) -> LpsysDvfsMode
+    ensures { λ r. ⌜ r ≡ requestMode (freq .0) ⌝ }
 {
-    mode_or(
-        LpsysDvfsMode::from_frequency(Megahertz(mhz)),
-        LpsysDvfsMode::D,
-    )
+    mode_or(LpsysDvfsMode::from_frequency(freq), LpsysDvfsMode::D)
 }
 
-pub fn divider_for(mhz: u32, h: Head) -> u8
-    requires { ⌜ (1 ≤ mhz) × (mhz ≤ 48) ⌝ }
-    ensures { λ r. ⌜ r ≡ dividerFor mhz h ⌝ }
+pub fn divider_for(freq: Megahertz, h: Head) -> u8
+    requires { ⌜ (1 ≤ freq .0) × (freq .0 ≤ 48) ⌝ }
+    ensures { λ r. ⌜ r ≡ dividerFor (freq .0) h ⌝ }
 {
     let sysclk = clock_read::lpsys::get_lpsys_sysclk_freq(h).unwrap_or(Hertz(48_000_000));
     let hertz = sysclk.0;
+    let mhz = freq.0;
     let target = mhz * 1_000_000;
     if hertz <= target {
         return 0;

@@ -3,6 +3,7 @@ ghost use Rattle.journal.specs.Machine.{Lent, Does, none};
 ghost use Rattle.lpsys_request.specs.slow.{slowDown};
 use journal::Machine;
 use time::Hertz;
+use time::Megahertz;
 
 // A request of 24 MHz where LPSYS is faster.
 pub fn slow_down(m: Machine, journal: &mut [u32]) -> Machine
@@ -13,7 +14,7 @@ pub fn slow_down(m: Machine, journal: &mut [u32]) -> Machine
     let f = clock_read::lpsys::get_lpsys_hclk_freq(head).unwrap_or(Hertz(0));
     let hertz = f.0;
     if 24_000_000 < hertz {
-        return crate::request(m, journal, 24);
+        return crate::request(m, journal, Megahertz(24));
     }
     m
 }

@@ -3,11 +3,13 @@ pub mod words;
 
 ghost use mathlib.Core.Path.{_≡_};
 ghost use Rattle.lpsys_tests.specs.Tests.{requestRefusal, divRefusal, sourceRefusal};
+use time::Megahertz;
 
 // The test of an LPSYS request.
-pub fn request_refusal(mhz: u32) -> u8
-    ensures { λ r. ⌜ r ≡ requestRefusal mhz ⌝ }
+pub fn request_refusal(freq: Megahertz) -> u8
+    ensures { λ r. ⌜ r ≡ requestRefusal (freq .0) ⌝ }
 {
+    let mhz = freq.0;
     if mhz == 0 {
         return 15;
     }

@@ -42,7 +42,7 @@ returns c =
     let present : tie.After-present-mode = search in
     let start : tie.Start = search in
     let done = supplied .config-lpsys-dvfs-first .ensures then divided .set-hdiv .ensures then ended .config-lpsys-dvfs-second .ensures in
-    by-head (requestOn (start .args .mhz)) (simp (present .present-mode .ensures, asked .request-mode .ensures, divider .divider-for .ensures) at done)
+    by-head (requestOn (start .args .freq .0)) (simp (present .present-mode .ensures, asked .request-mode .ensures, divider .divider-for .ensures) at done)
 
 pub request-spec : {M : Type 1} → statement M
 request-spec =

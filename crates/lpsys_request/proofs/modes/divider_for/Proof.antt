@@ -34,7 +34,7 @@ cast-result c =
     let read : tie.After-get-lpsys-sysclk-freq = search in
     let start : tie.Start = search in
     let source = found .unwrap-or .ensures ∙ (ap (λ f. hzOr 48000000 f) (read .get-lpsys-sysclk-freq .ensures) ∙ source-48 (start .args .h)) in
-    rw source (omega (arith, divider-most (start .args .mhz) (start .pre .0)))
+    rw source (omega (arith, divider-most (start .args .freq .0) (start .pre .0)))
 
 returns-2 : tie.Need-returns-2
 unfolding dividerFor
