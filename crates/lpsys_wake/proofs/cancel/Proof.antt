@@ -30,7 +30,9 @@ returns c =
     let cleared : tie.After-store = search in
     let last : tie.Then1 = search in
     let counted : tie.After-count-down = search in
-    by-head cancelOn (rw (eq-eqb _ _ (last .if1 .taken)) (beside (counted .count-down .ensures) then cleared .store .ensures))
+    let start : tie.Start = search in
+    let one = eq-eqb (start .args .m .head .«wake_count») 1 (last .if1 .taken) in
+    by-head cancelOn (rw one (beside (counted .count-down .ensures) then cleared .store .ensures))
 
 returns-2 : tie.Need-returns-2
 unfolding cancel
@@ -38,7 +40,8 @@ returns-2 c =
     let counted : tie.After-count-down = search in
     let start : tie.Start = search in
     let done = beside (counted .count-down .ensures) in
-    by-head cancelOn (rw (ne-eqb _ _ (c .if1 .left)) (done then does-nothing {k = 1} (lent-after (omega arith) (start .pre) done)))
+    let other = ne-eqb (start .args .m .head .«wake_count») 1 (c .if1 .left) in
+    by-head cancelOn (rw other (done then does-nothing {k = 1} (lent-after (omega arith) (start .pre) done)))
 
 pub cancel-spec : {M : Type 1} → statement M
 cancel-spec = tie.close (tie.spec count-down-requires store-requires same-length returns returns-2)

@@ -1,4 +1,5 @@
 -- `lpsys_request::slow::slow_down` meets its contract: a request of 24 MHz where LPSYS HCLK is above it. Assumes nothing.
+use native.Mathlib.Omega.{arith}
 use borrow.Author.Tests.{lt-ltb, le-ltb}
 use Rattle.journal.proofs.Does.{by-head, does-nothing}
 use Rattle.lpsys_request.specs.slow.{slowDownOn, slowDown}
@@ -22,10 +23,9 @@ returns : tie.Need-returns
 unfolding slowDown
 returns c =
     let requested : tie.After-request = search in
-    let fast : tie.Then1 = search in
     let found : tie.After-unwrap-or = search in
     let read : tie.After-get-lpsys-hclk-freq = search in
-    let above = simp (found .unwrap-or .ensures, read .get-lpsys-hclk-freq .ensures) at (lt-ltb _ _ (fast .if1 .taken)) in
+    let above = simp (found .unwrap-or .ensures, read .get-lpsys-hclk-freq .ensures) at (lt-ltb 24000000 (found .unwrap-or .result .0) (omega arith)) in
     by-head slowDownOn (rw above (requested .request .ensures))
 
 returns-2 : tie.Need-returns-2
@@ -34,7 +34,7 @@ returns-2 c =
     let found : tie.After-unwrap-or = search in
     let read : tie.After-get-lpsys-hclk-freq = search in
     let start : tie.Start = search in
-    let slow = simp (found .unwrap-or .ensures, read .get-lpsys-hclk-freq .ensures) at (le-ltb _ _ (c .if1 .left)) in
+    let slow = simp (found .unwrap-or .ensures, read .get-lpsys-hclk-freq .ensures) at (le-ltb 24000000 (found .unwrap-or .result .0) (omega arith)) in
     by-head slowDownOn (rw slow (does-nothing (start .pre)))
 
 pub slow-down-spec : {M : Type 1} → statement M
