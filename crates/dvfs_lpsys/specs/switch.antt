@@ -1,6 +1,5 @@
 -- Supply transitions of LPSYS, pmu/dvfs.rs: "Closures passed to a transition become its first and second half." Assumes nothing.
 use Rattle.journal.specs.Run.{Effect, _▸_, store, delay}
-use Rattle.dvfs.specs.declared.lpsys.LpsysDvfsMode.{LpsysDvfsMode}
 use Rattle.dvfs.specs.declared.lpsys.LpsysDvfsMode.the-variants.{D, S}
 use Rattle.dvfs.specs.lpsys.{lpsysRowOf}
 use Rattle.register.specs.Numbers.{LPSYS_LDO, LPSYS_SUPPLY, LPSYS_TIMING, LPSYS_VOUT}

@@ -2,10 +2,8 @@
 use mathlib.Core.List.{[], _∷_}
 use Rattle.record.proofs.Refusals.{only-test}
 use native.Mathlib.Omega.{arith}
-use mathlib.Core.Path.{_≡_, refl, sym, ap, _∙_}
+use mathlib.Core.Path.{sym, ap, _∙_}
 use Rattle.record.specs.Refusals.{firstOf}
-use Rattle.time.specs.declared.Reading.{Reading}
-use Rattle.time.specs.declared.Reading.the-variants.{At, Unreadable}
 use Rattle.clock_read.specs.lpsys.{lpsysHclkOf}
 use Rattle.call.proofs.Ending.{call-unadmitted, call-refused, call-ran, call-encodable, call-bytes, call-head}
 use Rattle.journal.specs.Machine.{none}

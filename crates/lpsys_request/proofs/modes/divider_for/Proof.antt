@@ -1,6 +1,6 @@
 -- `lpsys_request::modes::divider_for` meets its contract: the source gives 48 MHz, so the divider is at most 48. Assumes nothing.
 use native.Mathlib.Omega.{arith}
-use mathlib.Core.Path.{sym, ap, _∙_}
+use mathlib.Core.Path.{ap, _∙_}
 use borrow.Author.Tests.{le-leb, lt-leb}
 use Rattle.time.specs.Frequency.{hzOr}
 use Rattle.lpsys_request.specs.modes.{dividerFor}
