@@ -1,6 +1,5 @@
 -- Calibration only appends. Assumes nothing.
 use Prim.Native.Nat.{ℕ, zero, suc, _/_}
-use mathlib.Core.Bool.{cond}
 use mathlib.Core.List.{List}
 use lib.Dec.{ltb}
 use Rattle.register.specs.Word.{wordOf}
@@ -13,7 +12,11 @@ use Rattle.calibration.specs.Calibration.{calibrate, calibrateHrc48}
 
 framed-adjusted : (trim step : ℕ) (a : List ℕ) (more : ℕ → ℕ → Effect) → ((t d : ℕ) → Framed (more t d)) → Framed (adjusted trim step a more)
 unfolding adjusted
-framed-adjusted trim step a more x = record { appends = λ es r. framed-cond (ltb (difference (hxtCnt a r) (hrcCnt a r)) 64) (framed-judged (difference (hxtCnt a r) (hrcCnt a r))) (x (nextTrim trim step (hxtCnt a r) (hrcCnt a r)) (difference (hxtCnt a r) (hrcCnt a r))) .appends es r }
+framed-adjusted trim step a more x = record {
+  appends = λ es r.
+      let d = difference (hxtCnt a r) (hrcCnt a r) in
+      framed-cond (ltb d 64) (framed-judged d) (x (nextTrim trim step (hxtCnt a r) (hrcCnt a r)) d) .appends es r;
+}
 
 framed-search : (n trim step d : ℕ) (a : List ℕ) → Framed (search n trim step d a)
 unfolding search
@@ -22,4 +25,6 @@ framed-search (suc n) trim step d a = framed-then (framed-measurement trim a) (f
 
 pub framed-calibrate : (a : List ℕ) → Framed (calibrateHrc48 a)
 unfolding calibrate calibrateHrc48
-framed-calibrate a = record { appends = λ es r. framed-either (r .head .«hxt48_ready») (framed-then (framed-then (framed-store 20 0x3fff) (framed-store 18 (wordOf 0 3 3))) (framed-search 11 0x200 0x100 0 a)) (framed-halted 31) .appends es r }
+framed-calibrate a =
+    let all = framed-then (framed-then (framed-store 20 0x3fff) (framed-store 18 (wordOf 0 3 3))) (framed-search 11 0x200 0x100 0 a) in
+    record { appends = λ es r. framed-either (r .head .«hxt48_ready») all (framed-halted 31) .appends es r }

@@ -97,7 +97,10 @@ keeps-judged d = record { keeps = λ r t. rw (judged-keeps d r .0) t }
 keeps-measurement : (trim : ℕ) (a : List ℕ) → 1 ≤ trim → trim ≤ 1023 → Keeps (measurement trim a)
 unfolding measurement
 keeps-measurement trim a p q =
-    keeps-then (keeps-then (keeps-then (keeps-then (keeps-store 19 trim (λ e. (omega arith, omega arith))) (keeps-delay 3)) (keeps-store 21 1 (λ e. absurd (omega arith)))) (keeps-measure a)) (keeps-store 21 0 (λ e. absurd (omega arith)))
+    let set = keeps-store 19 trim (λ e. (omega arith, omega arith)) in
+    let on = keeps-store 21 1 (λ e. absurd (omega arith)) in
+    let off = keeps-store 21 0 (λ e. absurd (omega arith)) in
+    keeps-then (keeps-then (keeps-then (keeps-then set (keeps-delay 3)) on) (keeps-measure a)) off
 
 keeps-adjusted : (trim step : ℕ) (a : List ℕ) (more : ℕ → ℕ → Effect) → ((hxt hrc d : ℕ) → Keeps (more (nextTrim trim step hxt hrc) d)) → Keeps (adjusted trim step a more)
 unfolding adjusted

@@ -5,10 +5,11 @@ use mathlib.Core.List.{List}
 use lib.Dec.{ltb}
 use lib.ListN.{getD}
 use Rattle.journal.specs.Run.{Run, Effect, _▸_, idle, halted, store, delay, measure}
+use Rattle.register.specs.Numbers.{HRC_CALIBRATION_ON, HRC_TRIM}
 
 -- one turn of the loop of `calibrate_hrc48` up to its readings: the trim, 3 us to settle, calibration on, a measurement, calibration off
 unfoldable pub measurement : ℕ → List ℕ → Effect
-measurement trim a = store 19 trim ▸ delay 3 ▸ store 21 1 ▸ measure a ▸ store 21 0
+measurement trim a = store HRC_TRIM trim ▸ delay 3 ▸ store HRC_CALIBRATION_ON 1 ▸ measure a ▸ store HRC_CALIBRATION_ON 0
 
 -- "a finished measurement takes two more, hxt_cnt and hrc_cnt": the two answers taken last
 abbrev pub hxtCnt : List ℕ → Run → ℕ

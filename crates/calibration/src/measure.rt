@@ -1,29 +1,23 @@
 // One measurement of `calibrate_hrc48` of rcc/clock_config.rs, its difference, and the verdict on the last.
 ghost use mathlib.Core.Path.{_≡_};
 ghost use Prim.Native.Nat.{_≤_};
-ghost use lib.ListN.{length};
 ghost use Rattle.head.specs.Encodable.{Encodable};
-ghost use Rattle.journal.specs.Machine.{Ran, Quietly, Ready, Kept};
-ghost use Rattle.calibration.specs.measure.{
-  measurement as measurementAt,
-  difference as differenceOf,
-  judged as judgedBy,
-};
+ghost use Rattle.journal.specs.Machine.{Lent, Does, DoesWithoutJournal, taking};
+ghost use Rattle.calibration.specs.measure.{measurement as measurementAt, difference as differenceOf, judged as judgedBy};
 use journal::Machine;
 
 // One measurement at a trim; the two answers taken last are hxt_cnt and hrc_cnt.
 pub fn measurement(m: Machine, journal: &mut [u32], answers: &[u16], trim: u16) -> Machine
-    requires { ⌜ Ready 5 m (now journal) ⌝ }
-    requires { ⌜ (trim ≤ 1023) × ((m .taken ≤ length (now answers)) × (length (now answers) ≤ 4096)) ⌝ }
-    ensures { λ r. ⌜ Ran (measurementAt trim (now (answers .entry))) m r (now (journal .entry)) (now (journal .exit)) ⌝ }
-    ensures { λ r. ⌜ Kept 5 m r ⌝ }
-    ensures { λ r. ⌜ (r .taken ≤ length (now (answers .entry))) × (r .stop ≡ 0 → 2 ≤ r .taken) ⌝ }
+    requires { ⌜ Lent 5 m (now journal) (taking (now answers)) ⌝ }
+    requires { ⌜ trim ≤ 1023 ⌝ }
+    ensures { λ r. ⌜ Does 5 (measurementAt trim (now (answers .entry))) m r (now (journal .entry)) (now (journal .exit)) (taking (now (answers .entry))) ⌝ }
+    ensures { λ r. ⌜ (r .stop ≡ 0 → 2 ≤ r .taken) ⌝ }
 {
-    let m = m.store(journal, 19, trim as u32);
+    let m = m.store(journal, register::HRC_TRIM, trim as u32);
     let m = journal::delay_us(m, journal, 3);
-    let m = m.store(journal, 21, 1);
+    let m = m.store(journal, register::HRC_CALIBRATION_ON, 1);
     let m = waits::measure(m, journal, answers);
-    m.store(journal, 21, 0)
+    m.store(journal, register::HRC_CALIBRATION_ON, 0)
 }
 
 // How far the counts are apart.
@@ -39,9 +33,7 @@ pub fn difference(hxt: u16, hrc: u16) -> u16
 // 33 where the final difference is above 160.
 pub fn judged(m: Machine, diff: u16) -> Machine
     requires { ⌜ Encodable (m .head) ⌝ }
-    ensures { λ r. ⌜ Quietly (judgedBy diff) m r ⌝ }
-    ensures { λ r. ⌜ Kept 0 m r ⌝ }
-    ensures { λ r. ⌜ r .taken ≡ m .taken ⌝ }
+    ensures { λ r. ⌜ DoesWithoutJournal (judgedBy diff) m r ⌝ }
 {
     if 160 < diff {
         return m.refuse(33);

@@ -1,9 +1,8 @@
 // The search of `calibrate_hrc48` of rcc/clock_config.rs for the trim at which HRC48 counts as HXT48 does.
 ghost use mathlib.Core.Path.{_≡_};
 ghost use Prim.Native.Nat.{_+_, _≤_};
-ghost use lib.ListN.{length};
-ghost use Rattle.journal.specs.Machine.{Ran, Ready, Kept};
-ghost use Rattle.calibration.specs.search.{nextTrim, search as searching};
+ghost use Rattle.journal.specs.Machine.{Lent, Does, taking};
+ghost use Rattle.calibration.specs.search.{nextTrim, search};
 use journal::Machine;
 
 // The trim for the next measurement, if there is one.
@@ -18,12 +17,9 @@ fn next_trim(trim: u16, step: u16, hxt: u16, hrc: u16) -> u16
 }
 
 // Binary search for the trim: eleven measurements at most, fewer where the counts come close.
-pub fn search(m: Machine, journal: &mut [u32], answers: &[u16]) -> Machine
-    requires { ⌜ Ready 55 m (now journal) ⌝ }
-    requires { ⌜ (m .taken ≤ length (now answers)) × (length (now answers) ≤ 4096) ⌝ }
-    ensures { λ r. ⌜ Ran (searching 11 512 256 0 (now (answers .entry))) m r (now (journal .entry)) (now (journal .exit)) ⌝ }
-    ensures { λ r. ⌜ Kept 55 m r ⌝ }
-    ensures { λ r. ⌜ r .taken ≤ length (now (answers .entry)) ⌝ }
+pub fn run(m: Machine, journal: &mut [u32], answers: &[u16]) -> Machine
+    requires { ⌜ Lent 55 m (now journal) (taking (now answers)) ⌝ }
+    ensures { λ r. ⌜ Does 55 (search 11 512 256 0 (now (answers .entry))) m r (now (journal .entry)) (now (journal .exit)) (taking (now (answers .entry))) ⌝ }
 {
     let mut m = m;
     let mut ct_val: u16 = 0x200;

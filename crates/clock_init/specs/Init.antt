@@ -4,6 +4,7 @@ use mathlib.Core.Bool.{cond}
 use mathlib.Core.List.{List}
 use lib.Dec.{eqb}
 use Rattle.plan.specs.declared.Plan.{Plan}
+use Rattle.head.specs.declared.Head.{Head}
 use Rattle.journal.specs.Run.{Run, Effect, idle, _▸_}
 use Rattle.init_first.specs.begin.{initBegin}
 use Rattle.init_first.specs.warning.{warning}
@@ -15,8 +16,11 @@ unfoldable pub boot : Plan → List ℕ → Effect
 boot p a = initFirst p a ▸ initClock p a
 
 -- `PM_STANDBY_BOOT` is boot mode 3
+abbrev pub initOn : Plan → List ℕ → Head → Effect
+initOn p a h = initBegin a ▸ cond (eqb (h .«boot_mode») 3) idle (boot p a)
+
 unfoldable pub init : Plan → List ℕ → Effect
-init p a r = (initBegin a ▸ cond (eqb (r .head .«boot_mode») 3) idle (boot p a)) r
+init p a r = initOn p a (r .head) r
 
 -- the 31 or 33 of its calibration that `init` reports beside done, or 0
 unfoldable pub initWarning : Plan → List ℕ → Run → ℕ

@@ -2,10 +2,9 @@
 ghost use mathlib.Core.Path.{_≡_};
 ghost use mathlib.Core.Bool.{true};
 ghost use Prim.Native.Nat.{_≤_};
-ghost use lib.ListN.{length};
 ghost use Rattle.plan.specs.Plan.{legal};
 ghost use Rattle.plan_clocks.specs.Clocks.{targetOf};
-ghost use Rattle.journal.specs.Machine.{Ran, Ready, Kept};
+ghost use Rattle.journal.specs.Machine.{Lent, Does, taking};
 ghost use Rattle.clock_init.specs.core.{initClock};
 use journal::Machine;
 use plan::Plan;
@@ -18,12 +17,9 @@ pub fn init_clock(
     p: Plan,
     target: Target,
 ) -> Machine
-    requires { ⌜ Ready 30 m (now journal) ⌝ }
-    requires { ⌜ (m .taken ≤ length (now answers)) × (length (now answers) ≤ 4096) ⌝ }
+    requires { ⌜ Lent 30 m (now journal) (taking (now answers)) ⌝ }
     requires { ⌜ (legal p ≡ true) × ((target ≡ targetOf p) × (target .«usb_div» ≤ 7)) ⌝ }
-    ensures { λ r. ⌜ Ran (initClock p (now (answers .entry))) m r (now (journal .entry)) (now (journal .exit)) ⌝ }
-    ensures { λ r. ⌜ Kept 30 m r ⌝ }
-    ensures { λ r. ⌜ r .taken ≤ length (now (answers .entry)) ⌝ }
+    ensures { λ r. ⌜ Does 30 (initClock p (now (answers .entry))) m r (now (journal .entry)) (now (journal .exit)) (taking (now (answers .entry))) ⌝ }
 {
     let hclk = target.hclk;
     let usb_div = target.usb_div;

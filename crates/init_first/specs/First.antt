@@ -5,20 +5,25 @@ use mathlib.Core.Bool.{cond}
 use mathlib.Core.List.{List}
 use lib.Dec.{eqb}
 use Rattle.plan.specs.declared.Plan.{Plan}
+use Rattle.head.specs.declared.Head.{Head}
 use Rattle.clock_read.specs.Hpsys.{reg}
 use Rattle.journal.specs.declared.Machine.{Machine}
 use Rattle.journal.specs.Run.{Run, Effect, idle, halted, _▸_, store}
 use Rattle.journal.specs.Machine.{Reached}
 use Rattle.calibration.specs.Calibration.{calibrateHrc48}
 use Rattle.init_first.specs.warning.{warning, swallowed}
+use Rattle.register.specs.Numbers.{DLL_BUFFER_ON, LOW_POWER, LRC32_ON, SYSCLK}
 
 -- LRC32 on, the low-power clock on Lrc32 (1), the DLL buffer on
 unfoldable pub bootStores : Effect
-bootStores = store 23 1 ▸ store 10 1 ▸ store 24 1
+bootStores = store LRC32_ON 1 ▸ store LOW_POWER 1 ▸ store DLL_BUFFER_ON 1
 
 -- away from HRC48 (0) to HXT48 (1), which must be ready: "32 `init` must calibrate on HRC48 without HXT48"
+abbrev pub leaveHrc48On : Head → Effect
+leaveHrc48On h = cond (eqb (reg h SYSCLK) 0) (cond (h .«hxt48_ready») (store SYSCLK 1) (halted 32)) idle
+
 unfoldable pub leaveHrc48 : Effect
-leaveHrc48 r = cond (eqb (reg (r .head) 1) 0) (cond (r .head .«hxt48_ready») (store 1 1) (halted 32)) idle r
+leaveHrc48 r = leaveHrc48On (r .head) r
 
 -- the calibration that a plan asks for
 unfoldable pub calibrating : Plan → List ℕ → Effect

@@ -1,7 +1,7 @@
 // rcc/clock_config.rs, `init` after its calibration: 31 and 33 are a warning.
 ghost use mathlib.Core.Path.{_≡_};
 ghost use Rattle.head.specs.Encodable.{Encodable};
-ghost use Rattle.journal.specs.Machine.{Quietly, Kept};
+ghost use Rattle.journal.specs.Machine.{DoesWithoutJournal};
 ghost use Rattle.init_first.specs.warning.{isWarning, warning, swallowed};
 use journal::Machine;
 
@@ -23,9 +23,8 @@ fn is_warning(stop: u8) -> bool
 // 31 and 33 end the calibration, not `init`.
 pub fn swallow(m: Machine) -> Calibrated
     requires { ⌜ Encodable (m .head) ⌝ }
-    ensures { λ r. ⌜ Quietly swallowed m (r .machine) ⌝ }
-    ensures { λ r. ⌜ Kept 0 m (r .machine) ⌝ }
-    ensures { λ r. ⌜ (r .machine .taken ≡ m .taken) × (r .warning ≡ warning (m .stop)) ⌝ }
+    ensures { λ r. ⌜ DoesWithoutJournal swallowed m (r .machine) ⌝ }
+    ensures { λ r. ⌜ r .warning ≡ warning (m .stop) ⌝ }
 {
     let stop = m.stop;
     let head = m.head;

@@ -7,13 +7,14 @@ use Rattle.clock.specs.declared.Dll.{Dll}
 use Rattle.clock.specs.declared.MaybeDll.{MaybeDll}
 use Rattle.clock.specs.declared.MaybeDll.the-variants.{Absent, Present}
 use Rattle.plan.specs.declared.Plan.{Plan}
-use Rattle.register.specs.Word.{byteA, byteB, byteC}
-use Rattle.register.specs.Word.{bit}
+use Rattle.register.specs.Word.{byteA, byteB, byteC, bit}
+use Rattle.head.specs.declared.Head.{Head}
 use Rattle.clock_read.specs.Hpsys.{reg}
 use Rattle.journal.specs.Run.{Effect, idle, _▸_, store}
 use Rattle.dll.specs.Dll.{configureDll}
 use Rattle.init_rest.specs.flash.{flashBack}
 use Rattle.init_rest.specs.selects.{plannedUsb, plannedMuxes}
+use Rattle.register.specs.Numbers.{DLL2, FLASH}
 
 -- DLL2 is on already, at the plan's stage and half
 unfoldable pub isSet : Dll → ℕ → Bool
@@ -21,11 +22,14 @@ isSet d word = eqb (byteA word) 1 && (eqb (byteC word) (d .stage) && eqb (byteB 
 
 -- DLL2 set anew: both flash selects away to Peri, DLL2, the flash selects back
 unfoldable pub moveDll2 : Dll → ℕ → List ℕ → Effect
-moveDll2 d back a = store 5 0 ▸ configureDll 4 d a ▸ store 5 back
+moveDll2 d back a = store FLASH 0 ▸ configureDll DLL2 d a ▸ store FLASH back
 
 -- where the plan has DLL2 and it is not set so already
+abbrev pub setDll2On : Dll → List ℕ → Head → Effect
+setDll2On d a h = cond (isSet d (reg h DLL2)) idle (moveDll2 d (flashBack (reg h FLASH)) a)
+
 unfoldable pub setDll2 : Dll → List ℕ → Effect
-setDll2 d a r = cond (isSet d (reg (r .head) 4)) idle (moveDll2 d (flashBack (reg (r .head) 5)) a) r
+setDll2 d a r = setDll2On d a (r .head) r
 
 abbrev pub plannedDll2 : MaybeDll → List ℕ → Effect
 plannedDll2 Absent a = idle

@@ -2,6 +2,7 @@
 ghost use mathlib.Core.Path.{_≡_};
 ghost use mathlib.Core.Bool.{true};
 ghost use Prim.Native.Nat.{_≤_};
+ghost use Rattle.register.specs.Numbers.{FLASH};
 ghost use Rattle.register.specs.Codes.{fitsRegister};
 ghost use Rattle.init_rest.specs.flash.{backTo, flashBack};
 
@@ -16,9 +17,9 @@ fn back_to(select: u32) -> u32
     0
 }
 
-// What register 5 is set back to, from what it held before.
+// What the register of the flash selects is set back to, from what it held before.
 pub fn flash_back(old: u32) -> u32
-    ensures { λ r. ⌜ (r ≡ flashBack old) × (fitsRegister 5 r ≡ true) ⌝ }
+    ensures { λ r. ⌜ (r ≡ flashBack old) × (fitsRegister FLASH r ≡ true) ⌝ }
 {
     register::word(0, back_to(register::b(old)), back_to(register::c(old)))
 }

@@ -5,19 +5,13 @@ pub mod selects;
 ghost use mathlib.Core.Path.{_≡_};
 ghost use mathlib.Core.Bool.{true};
 ghost use Prim.Native.Nat.{_≤_};
-ghost use lib.ListN.{length};
 ghost use Rattle.plan.specs.Code.{stageOf};
 ghost use Rattle.plan.specs.Plan.{legal};
 ghost use Rattle.plan_clocks.specs.Clocks.{usbDivider};
+ghost use Rattle.register.specs.Numbers.{FLASH};
 ghost use Rattle.register.specs.Codes.{fitsRegister};
-ghost use Rattle.journal.specs.Machine.{Ran, Ready, Kept};
-ghost use Rattle.init_rest.specs.Rest.{
-  isSet,
-  moveDll2,
-  setDll2,
-  plannedDll2,
-  initRest,
-};
+ghost use Rattle.journal.specs.Machine.{Lent, Does, taking};
+ghost use Rattle.init_rest.specs.Rest.{isSet, moveDll2, setDll2, plannedDll2, initRest};
 use clock::Dll;
 use clock::MaybeDll;
 use journal::Machine;
@@ -42,42 +36,33 @@ fn is_set(d: Dll, word: u32) -> bool
 
 // The flash selects leave DLL2 while it is set anew.
 fn move_dll2(m: Machine, journal: &mut [u32], answers: &[u16], d: Dll, back: u32) -> Machine
-    requires { ⌜ Ready 8 m (now journal) ⌝ }
-    requires { ⌜ (m .taken ≤ length (now answers)) × (length (now answers) ≤ 4096) ⌝ }
-    requires { ⌜ (d .stage ≤ 15) × (fitsRegister 5 back ≡ true) ⌝ }
-    ensures { λ r. ⌜ Ran (moveDll2 d back (now (answers .entry))) m r (now (journal .entry)) (now (journal .exit)) ⌝ }
-    ensures { λ r. ⌜ Kept 8 m r ⌝ }
-    ensures { λ r. ⌜ r .taken ≤ length (now (answers .entry)) ⌝ }
+    requires { ⌜ Lent 8 m (now journal) (taking (now answers)) ⌝ }
+    requires { ⌜ (d .stage ≤ 15) × (fitsRegister FLASH back ≡ true) ⌝ }
+    ensures { λ r. ⌜ Does 8 (moveDll2 d back (now (answers .entry))) m r (now (journal .entry)) (now (journal .exit)) (taking (now (answers .entry))) ⌝ }
 {
-    let m = m.store(journal, 5, 0);
-    let m = dll::configure_dll(m, journal, answers, 4, d);
-    m.store(journal, 5, back)
+    let m = m.store(journal, register::FLASH, 0);
+    let m = dll::configure_dll(m, journal, answers, register::DLL2, d);
+    m.store(journal, register::FLASH, back)
 }
 
 fn set_dll2(m: Machine, journal: &mut [u32], answers: &[u16], d: Dll) -> Machine
-    requires { ⌜ Ready 8 m (now journal) ⌝ }
-    requires { ⌜ (m .taken ≤ length (now answers)) × (length (now answers) ≤ 4096) ⌝ }
+    requires { ⌜ Lent 8 m (now journal) (taking (now answers)) ⌝ }
     requires { ⌜ d .stage ≤ 15 ⌝ }
-    ensures { λ r. ⌜ Ran (setDll2 d (now (answers .entry))) m r (now (journal .entry)) (now (journal .exit)) ⌝ }
-    ensures { λ r. ⌜ Kept 8 m r ⌝ }
-    ensures { λ r. ⌜ r .taken ≤ length (now (answers .entry)) ⌝ }
+    ensures { λ r. ⌜ Does 8 (setDll2 d (now (answers .entry))) m r (now (journal .entry)) (now (journal .exit)) (taking (now (answers .entry))) ⌝ }
 {
     let head = m.head;
-    let word = head.regs[4];
+    let word = head.regs[register::DLL2];
     if is_set(d, word) {
         return m;
     }
-    let back = flash::flash_back(head.regs[5]);
+    let back = flash::flash_back(head.regs[register::FLASH]);
     move_dll2(m, journal, answers, d, back)
 }
 
 fn configure_dll2(m: Machine, journal: &mut [u32], answers: &[u16], dll2: MaybeDll) -> Machine
-    requires { ⌜ Ready 8 m (now journal) ⌝ }
-    requires { ⌜ (m .taken ≤ length (now answers)) × (length (now answers) ≤ 4096) ⌝ }
+    requires { ⌜ Lent 8 m (now journal) (taking (now answers)) ⌝ }
     requires { ⌜ stageOf dll2 ≤ 15 ⌝ }
-    ensures { λ r. ⌜ Ran (plannedDll2 dll2 (now (answers .entry))) m r (now (journal .entry)) (now (journal .exit)) ⌝ }
-    ensures { λ r. ⌜ Kept 8 m r ⌝ }
-    ensures { λ r. ⌜ r .taken ≤ length (now (answers .entry)) ⌝ }
+    ensures { λ r. ⌜ Does 8 (plannedDll2 dll2 (now (answers .entry))) m r (now (journal .entry)) (now (journal .exit)) (taking (now (answers .entry))) ⌝ }
 {
     let MaybeDll::Present(d) = dll2 else {
         return m;
@@ -86,12 +71,9 @@ fn configure_dll2(m: Machine, journal: &mut [u32], answers: &[u16], dll2: MaybeD
 }
 
 pub fn init_rest(m: Machine, journal: &mut [u32], answers: &[u16], p: Plan, usb_div: u8) -> Machine
-    requires { ⌜ Ready 13 m (now journal) ⌝ }
-    requires { ⌜ (m .taken ≤ length (now answers)) × (length (now answers) ≤ 4096) ⌝ }
+    requires { ⌜ Lent 13 m (now journal) (taking (now answers)) ⌝ }
     requires { ⌜ (legal p ≡ true) × ((«usb_div» ≡ usbDivider p) × («usb_div» ≤ 7)) ⌝ }
-    ensures { λ r. ⌜ Ran (initRest p (now (answers .entry))) m r (now (journal .entry)) (now (journal .exit)) ⌝ }
-    ensures { λ r. ⌜ Kept 13 m r ⌝ }
-    ensures { λ r. ⌜ r .taken ≤ length (now (answers .entry)) ⌝ }
+    ensures { λ r. ⌜ Does 13 (initRest p (now (answers .entry))) m r (now (journal .entry)) (now (journal .exit)) (taking (now (answers .entry))) ⌝ }
 {
     let dll2 = p.dll2;
     let m = configure_dll2(m, journal, answers, dll2);

@@ -20,10 +20,10 @@ pub fn run(
     ensures { λ _. ⌜ now (clocks .exit) ≡ clocksAfter call (now (clocks .entry)) (now (plan .entry)) (now (buffer .entry)) (now (journal .entry)) (now (answers .entry)) ⌝ }
 {
     match call {
-        Call::Calibrate => clock_config::calibrate::calibrate_hrc48(buffer, journal, answers),
-        Call::Init => clock_config::init::init(buffer, plan, clocks, journal, answers),
+        Call::Calibrate => clock_config::calibrate_hrc48(buffer, journal, answers),
+        Call::Init => clock_config::init(buffer, plan, clocks, journal, answers),
         Call::Reconfigure => {
-            clock_config::reconfigure::reconfigure_sysclk(buffer, plan, clocks, journal, answers)
+            clock_config::reconfigure_sysclk(buffer, plan, clocks, journal, answers)
         }
         Call::Change => guard::change(buffer, plan, journal, answers),
     }

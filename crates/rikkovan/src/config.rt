@@ -13,7 +13,7 @@ pub extern "C" fn rikkovan_calibrate_hrc48(
 ) -> u64
     ensures { λ r. ⌜ Gives (calibration (now (head .entry)) (now (journal .entry)) (now (answers .entry))) r (now (head .exit)) (now (journal .exit)) ⌝ }
 {
-    call::word::of_answer(clock_config::calibrate::calibrate_hrc48(head, journal, answers))
+    call::word::of_answer(clock_config::calibrate_hrc48(head, journal, answers))
 }
 
 // `clocks` is written on every answer: all 0 on a refusal.
@@ -28,7 +28,7 @@ pub extern "C" fn rikkovan_init(
     ensures { λ r. ⌜ Gives (initCall (now (plan .entry)) (now (head .entry)) (now (journal .entry)) (now (answers .entry))) r (now (head .exit)) (now (journal .exit)) ⌝ }
     ensures { λ _. ⌜ now (clocks .exit) ≡ initClocks (now (plan .entry)) (now (head .entry)) (now (journal .entry)) (now (answers .entry)) ⌝ }
 {
-    call::word::of_answer(clock_config::init::init(head, plan, clocks, journal, answers))
+    call::word::of_answer(clock_config::init(head, plan, clocks, journal, answers))
 }
 
 // `clocks` holds the former frequencies, then the new ones; on a refusal it stays.
@@ -43,11 +43,5 @@ pub extern "C" fn rikkovan_reconfigure_sysclk(
     ensures { λ r. ⌜ Gives (reconfigureCall (now (plan .entry)) (now (head .entry)) (now (journal .entry)) (now (answers .entry))) r (now (head .exit)) (now (journal .exit)) ⌝ }
     ensures { λ _. ⌜ now (clocks .exit) ≡ reconfigureClocks (now (clocks .entry)) (now (plan .entry)) (now (head .entry)) (now (journal .entry)) (now (answers .entry)) ⌝ }
 {
-    call::word::of_answer(clock_config::reconfigure::reconfigure_sysclk(
-        head,
-        plan,
-        clocks,
-        journal,
-        answers,
-    ))
+    call::word::of_answer(clock_config::reconfigure_sysclk(head, plan, clocks, journal, answers))
 }

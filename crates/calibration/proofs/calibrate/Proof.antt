@@ -1,11 +1,10 @@
 -- `calibration::calibrate` meets its contract: one step after the other. Assumes nothing.
-use native.Mathlib.Omega.{arith}
 use mathlib.Core.Path.{refl}
 use Rattle.record.specs.Bytes.{isWithin}
 use Rattle.register.specs.Word.{wordBytes}
 use Rattle.register.specs.Codes.{fitsRegister, largest}
-use Rattle.journal.proofs.Reached.{ran-then}
 use Rattle.calibration.specs.Calibration.{calibrate}
+use Rattle.journal.proofs.Does.{_then_}
 use borrow.Author.Needs.{needs}
 use Rattle.calibration.proofs.calibrate.Statement.{statement}
 use Rattle.calibration.proofs.calibrate.Tie as tie
@@ -21,8 +20,8 @@ store-requires-2 : tie.Need-store-requires-2
 unfolding fitsRegister isWithin wordBytes largest
 store-requires-2 c κs = (search needs, (search needs, rw (c .word .ensures)))
 
-search-requires : tie.Need-search-requires
-search-requires c κs = search needs
+run-requires : tie.Need-run-requires
+run-requires c κs = search needs
 
 same-length : tie.Need-same-length
 same-length c = search needs
@@ -30,17 +29,13 @@ same-length c = search needs
 returns : tie.Need-returns
 unfolding calibrate
 returns c =
-    let length = c .before .before .before .before .before .before .before .before .before .before .before .store in
-    let clocks = c .before .before .before .before .before .before .store2 in
-    let search = c .before .before .search in (
-      ran-then (ran-then (length .ensures .ran) (rw (c .before .before .before .before .before .before .before .word .ensures) at (clocks .ensures .ran))) (search .ensures .0),
-      (
-        record { room = omega (arith, length .ensures .room, clocks .ensures .room, search .ensures .1 .0 .room); encodable = search .ensures .1 .0 .encodable },
-        search .ensures .1 .1,
-      ),
-    )
+    let searched : tie.After-run = search in
+    let selected : tie.After-store2 = search in
+    let word : tie.After-word = search in
+    let set : tie.After-store = search in
+    set .store .ensures then (rw (word .word .ensures) at (selected .store2 .ensures)) then searched .run .ensures
 
 pub calibrate-spec : {M : Type 1} → statement M
 calibrate-spec =
     tie.close
-    (tie.spec store-requires word-requires store-requires-2 search-requires same-length returns)
+    (tie.spec store-requires word-requires store-requires-2 run-requires same-length returns)

@@ -29,10 +29,9 @@ same-length c = search needs
 
 returns : tie.Need-returns
 returns c =
-    let y = c .before .before .before .before .calibrate-hrc48 .ensures in (
-      ran-lent (framed-calibrate _) (y .0),
-      (record { room = omega (arith, y .1 .0 .room); encodable = y .1 .0 .encodable }, y .1 .1),
-    )
+    let calibrated : tie.After-calibrate-hrc48 = search in
+    let done = calibrated .calibrate-hrc48 .ensures in
+    record { ran = ran-lent (framed-calibrate _) (done .ran); room = omega (arith, done .room); encodable = done .encodable; answers = done .answers }
 
 pub calibrate-in-rest-spec : {M : Type 1} → statement M
 calibrate-in-rest-spec =

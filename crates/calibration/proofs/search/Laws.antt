@@ -32,7 +32,9 @@ ranged-next trim step hxt hrc s = by (ltb hrc hxt)
 -- a call that has ended
 pub still-adjusted : (trim step : ℕ) (a : List ℕ) (more : ℕ → ℕ → Effect) → ((t d : ℕ) → Still (more t d)) → Still (adjusted trim step a more)
 unfolding adjusted
-still-adjusted trim step a more x = record { stays = λ r e. by (ltb (difference (hxtCnt a r) (hrcCnt a r)) 64) r e (difference (hxtCnt a r) (hrcCnt a r)) (nextTrim trim step (hxtCnt a r) (hrcCnt a r)) }
+still-adjusted trim step a more x = record {
+  stays = λ r e. by (ltb (difference (hxtCnt a r) (hrcCnt a r)) 64) r e (difference (hxtCnt a r) (hrcCnt a r)) (nextTrim trim step (hxtCnt a r) (hrcCnt a r));
+}
   where
     by : (t : Bool) (r : Run) → (r .stop ≡ 0 → ⊥) → (d trim' : ℕ) → cond t (judged d r) (more trim' d r) ≡ r
     by true r e d trim' = still-judged d .stays r e

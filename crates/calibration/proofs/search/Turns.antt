@@ -7,11 +7,10 @@ use native.Mathlib.Omega.{arith}
 use lib.Dec.{ltb}
 use lib.ListN.{length, getD}
 use borrow.Author.Tests.{lt-ltb, le-ltb}
-use Rattle.head.specs.Encodable.{Encodable}
 use Rattle.journal.specs.declared.Machine.{Machine}
 use Rattle.journal.specs.Run.{Run, Effect}
-use Rattle.journal.specs.Machine.{machineOf, Ran, Kept}
-use Rattle.journal.proofs.Reached.{ran-as, ran-then}
+use Rattle.journal.specs.Machine.{machineOf, Answers, taking, Lent, Does, DoesWithoutJournal}
+use Rattle.journal.proofs.Does.{_then_, same-long, lent-after, does-as, does-within, takes-none, beside}
 use Rattle.journal.proofs.Ended.{ran-still}
 use Rattle.calibration.specs.measure.{measurement, difference, judged}
 use Rattle.calibration.specs.search.{nextTrim, adjusted, search}
@@ -43,58 +42,65 @@ module _ (trim step : ℕ) (a : List ℕ) (more : ℕ → ℕ → Effect) (m : M
   unfolding adjusted
   adjusted-at r q = rw q
 
-  pub ran-good : {m' : Machine} {j j' : List ℕ} → apart < 64 → Ran (judged apart) m m' j j' → Ran (adjusted trim step a more) m m' j j'
-  ran-good h x = ran-as (λ r q. rw (lt-ltb apart 64 h) at (adjusted-at r q)) x
+  pub does-good : {k : ℕ} {m' : Machine} {j j' : List ℕ} {x : Answers} → apart < 64 →
+      Does k (judged apart) m m' j j' x → Does k (adjusted trim step a more) m m' j j' x
+  does-good h d = does-as (λ r q. rw (lt-ltb apart 64 h) at (adjusted-at r q)) (omega arith) d
 
-  pub ran-again : {m' : Machine} {j j' : List ℕ} → 64 ≤ apart → Ran (more next apart) m m' j j' → Ran (adjusted trim step a more) m m' j j'
-  ran-again h x = ran-as (λ r q. rw (le-ltb apart 64 h) at (adjusted-at r q)) x
+  pub does-again : {k : ℕ} {m' : Machine} {j j' : List ℕ} {x : Answers} → 64 ≤ apart →
+      Does k (more next apart) m m' j j' x → Does k (adjusted trim step a more) m m' j j' x
+  does-again h d = does-as (λ r q. rw (le-ltb apart 64 h) at (adjusted-at r q)) (omega arith) d
 
--- after `n` turns: the trim and its step, and that doing the turns left from here does the search
+-- the whole search, from `m₀` and `j₀` to `m'` and `j'`
+abbrev Searched : List ℕ → Machine → Machine → List ℕ → List ℕ → Type 0
+Searched a m₀ m' j₀ j' = Does 55 (search 11 512 256 0 a) m₀ m' j₀ j' (taking a)
+
+-- after `n` turns: the trim and its step, room for the turns left, and that doing them from here does the search
 pub record Searching (a : List ℕ) (m₀ : Machine) (j₀ : List ℕ) (m : Machine) (j : List ℕ) (trim step d n : ℕ) : Type 0 where
   pub turns : n ≤ 11
   pub trims : Ranged trim step
   pub long : length j ≡ length j₀
-  pub room : m .at ≤ m₀ .at + 5 * n
-  pub encodable : Encodable (m .head)
-  pub taken : m .taken ≤ length a
-  pub rest : {m' : Machine} {j' : List ℕ} → Ran (search (11 - n) trim step d a) m m' j j' → Ran (search 11 512 256 0 a) m₀ m' j₀ j'
+  pub lent : Lent (5 * (11 - n)) m j (taking a)
+  pub rest : {m' : Machine} {j' : List ℕ} → Does (5 * (11 - n)) (search (11 - n) trim step d a) m m' j j' (taking a) → Searched a m₀ m' j₀ j'
 
 module _ {a : List ℕ} {m₀ : Machine} {j₀ : List ℕ} {m : Machine} {j : List ℕ} {trim step d n : ℕ} (s : Searching a m₀ j₀ m j trim step d n) where
   -- the turns are over
-  pub last-turn : {m' : Machine} {j' : List ℕ} → 11 ≤ n → Ran (judged d) m m' j j' → Ran (search 11 512 256 0 a) m₀ m' j₀ j'
+  pub last-turn : {m' : Machine} → 11 ≤ n → DoesWithoutJournal (judged d) m m' → Searched a m₀ m' j₀ j
   unfolding search
-  last-turn h x =
-      let none : 11 - n ≡ 0 = omega arith in
-      s .rest (rw none x)
+  last-turn h judge =
+      let over : 11 - n ≡ 0 = omega arith in
+      s .rest (rw over (takes-none (s .lent) (beside judge)))
 
-  module _ {m₁ : Machine} {j₁ : List ℕ} (more : n < 11) (x : Ran (measurement trim a) m m₁ j j₁) where
+  module _ {m₁ : Machine} {j₁ : List ℕ} (more : n < 11) (measured : Does 5 (measurement trim a) m m₁ j j₁ (taking a)) where
     abbrev left : ℕ → ℕ → Effect
     left t e = search (11 - (n + 1)) t (step / 2) e a
 
+    -- what the measurement leaves for the turns after it
+    after : Lent (5 * (11 - (n + 1))) m₁ j₁ (taking a)
+    after = lent-after (omega arith) (s .lent) measured
+
     -- a turn and what comes after its measurement
-    turn : {m' : Machine} {j' : List ℕ} → Ran (adjusted trim step a left) m₁ m' j₁ j' → Ran (search 11 512 256 0 a) m₀ m' j₀ j'
+    turn : {m' : Machine} {j' : List ℕ} → Does (5 * (11 - (n + 1))) (adjusted trim step a left) m₁ m' j₁ j' (taking a) → Searched a m₀ m' j₀ j'
     unfolding search
     turn y =
         let one : 11 - n ≡ suc (11 - (n + 1)) = omega arith in
-        s .rest (rw one (ran-then x y))
+        s .rest (rw one (does-within (omega arith) (measured then y)))
 
     -- one that 34 or 36 cut short
-    pub short-turn : (m₁ .stop ≡ 0 → ⊥) → Ran (search 11 512 256 0 a) m₀ m₁ j₀ j₁
-    short-turn e = turn (ran-still (still-adjusted trim step a left (λ t e'. still-search (11 - (n + 1)) t (step / 2) e' a)) m₁ j₁ e)
+    pub short-turn : (m₁ .stop ≡ 0 → ⊥) → Searched a m₀ m₁ j₀ j₁
+    short-turn e =
+        let still = still-adjusted trim step a left (λ t e'. still-search (11 - (n + 1)) t (step / 2) e' a) in
+        turn (record { ran = ran-still still m₁ j₁ e; room = omega arith; encodable = after .encodable; answers = after .answers })
 
     -- one that ends the search
-    pub good-turn : {e : ℕ} {m' : Machine} {j' : List ℕ} → e ≡ apartAt a m₁ → e < 64 → Ran (judged e) m₁ m' j₁ j' → Ran (search 11 512 256 0 a) m₀ m' j₀ j'
-    good-turn q h y = turn (ran-good trim step a left m₁ (rw q at h) (rw q at y))
+    pub good-turn : {e : ℕ} {m' : Machine} → e ≡ apartAt a m₁ → e < 64 → DoesWithoutJournal (judged e) m₁ m' → Searched a m₀ m' j₀ j₁
+    good-turn q h judge = turn (does-good trim step a left m₁ (rw q at h) (does-within (omega arith) (takes-none after (beside (rw q at judge)))))
 
     -- one after which it goes on
-    pub next-turn : {e t : ℕ} → e ≡ apartAt a m₁ → t ≡ nextAt trim step a m₁ → 64 ≤ e → Kept 5 m m₁ → m₁ .taken ≤ length a → length j₁ ≡ length j →
-        Searching a m₀ j₀ m₁ j₁ t (step / 2) e (n + 1)
-    next-turn q u h k taken long = record {
+    pub next-turn : {e t : ℕ} → e ≡ apartAt a m₁ → t ≡ nextAt trim step a m₁ → 64 ≤ e → Searching a m₀ j₀ m₁ j₁ t (step / 2) e (n + 1)
+    next-turn q u h = record {
       turns = omega arith;
       trims = rw u (ranged-next trim step (hxtAt a m₁) (hrcAt a m₁) (s .trims));
-      long = long ∙ s .long;
-      room = omega (arith, k .room, s .room);
-      encodable = k .encodable;
-      taken = taken;
-      rest = λ y. turn (ran-again trim step a left m₁ (rw q at h) (rw (q, u) at y));
+      long = same-long (omega arith) (s .lent) measured ∙ s .long;
+      lent = after;
+      rest = λ y. turn (does-again trim step a left m₁ (rw q at h) (rw (q, u) at y));
     }

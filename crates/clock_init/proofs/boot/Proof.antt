@@ -1,7 +1,6 @@
 -- `clock_init::boot` meets its contract: one step after the other, with the warning of the first. Assumes nothing.
-use Rattle.journal.proofs.Reached.{ran-then}
-use Rattle.journal.proofs.Steps.{kept-then}
 use Rattle.clock_init.specs.Init.{boot}
+use Rattle.journal.proofs.Does.{_then_}
 use borrow.Author.Needs.{needs}
 use Rattle.clock_init.proofs.boot.Statement.{statement}
 use Rattle.clock_init.proofs.boot.Tie as tie
@@ -17,7 +16,10 @@ same-length c = search needs
 
 returns : tie.Need-returns
 unfolding boot
-returns c = (ran-then (c .before .before .before .before .before .before .before .init-first .ensures .0) (c .before .before .init-clock .ensures .0), (kept-then (c .before .before .before .before .before .before .before .init-first .ensures .1 .0) (c .before .before .init-clock .ensures .1 .0), c .before .before .before .before .before .before .before .init-first .ensures .1 .1 .1))
+returns c =
+    let clocked : tie.After-init-clock = search in
+    let first : tie.After-init-first = search in
+    (first .init-first .ensures .0 then clocked .init-clock .ensures, first .init-first .ensures .1)
 
 pub boot-spec : {M : Type 1} → statement M
 boot-spec = tie.close (tie.spec init-first-requires init-clock-requires same-length returns)

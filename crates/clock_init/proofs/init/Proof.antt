@@ -1,18 +1,11 @@
 -- `clock_init::init` meets its contract: the boot mode picks the case. Assumes nothing.
 use native.Mathlib.Omega.{arith}
-use mathlib.Core.Path.{_≡_, refl, sym, ap, _∙_}
-use mathlib.Core.Bool.{true, false, cond}
+use mathlib.Core.Path.{sym, ap, _∙_}
 use lib.Dec.{eqb}
 use borrow.Author.Tests.{eq-eqb, ne-eqb}
-use Rattle.head.specs.declared.Head.{Head}
 use Rattle.journal.specs.declared.Machine.{Machine}
-use Rattle.journal.specs.Run.{Run, idle, _▸_}
-use Rattle.journal.specs.Machine.{machineOf}
-use Rattle.journal.proofs.Reached.{ran-then, ran-idle}
-use Rattle.journal.proofs.Steps.{kept-then, kept-within, of-head}
-use Rattle.init_first.specs.begin.{initBegin}
-use Rattle.init_first.specs.warning.{warning}
-use Rattle.clock_init.specs.Init.{boot, init, initWarning}
+use Rattle.clock_init.specs.Init.{initOn, init, initWarning}
+use Rattle.journal.proofs.Does.{_then_, lent-after, by-head, does-nothing}
 use borrow.Author.Needs.{needs}
 use Rattle.clock_init.proofs.init.Statement.{statement}
 use Rattle.clock_init.proofs.init.Tie as tie
@@ -25,7 +18,15 @@ same-length c = search needs
 
 returns : tie.Need-returns
 unfolding init initWarning
-returns c = let standby = eq-eqb (c .before .before .before .before .before .before .before .before .args .m .head .«boot_mode») 3 (omega (arith, c .if1 .taken)) in of-head (λ (h : Head). initBegin (c .before .before .before .before .before .before .before .before .args .answers .now) ▸ cond (eqb (h .«boot_mode») 3) idle (boot (c .before .before .before .before .before .before .before .before .args .p) (c .before .before .before .before .before .before .before .before .args .answers .now))) (simp standby (ran-then (c .before .before .before .init-begin .ensures .0) (ran-idle _ _), (kept-within (omega arith) (c .before .before .before .init-begin .ensures .1 .0), record { told = λ r j₀ at. simp (sym (ap (λ (w : Machine). eqb (w .head .«boot_mode») 3) (at .machine)) ∙ standby) })))
+returns c =
+    let begun : tie.After-init-begin = search in
+    let start : tie.Start = search in
+    let standby = eq-eqb (start .args .m .head .«boot_mode») 3 (omega (arith, c .if1 .taken)) in
+    let left = lent-after {n = 91} (omega arith) (start .pre .0) (begun .init-begin .ensures) in
+    let done = begun .init-begin .ensures then does-nothing left in (
+      by-head (initOn (start .args .p) _) (rw standby done),
+      record { told = λ r j₀ at. simp (sym (ap (λ (w : Machine). eqb (w .head .«boot_mode») 3) (at .machine)) ∙ standby) },
+    )
 
 boot-requires : tie.Need-boot-requires
 boot-requires c κs = search needs
@@ -35,7 +36,20 @@ same-length-2 c = search needs
 
 returns-2 : tie.Need-returns-2
 unfolding init initWarning
-returns-2 c = let other = ne-eqb _ 3 (c .before .before .before .before .if1 .left) in of-head (λ (h : Head). initBegin (c .before .before .before .before .before .before .before .before .before .before .before .before .args .answers .now) ▸ cond (eqb (h .«boot_mode») 3) idle (boot (c .before .before .before .before .before .before .before .before .before .before .before .before .args .p) (c .before .before .before .before .before .before .before .before .before .before .before .before .args .answers .now))) (simp other (ran-then (c .before .before .before .before .before .before .before .init-begin .ensures .0) (c .before .before .boot .ensures .0), (kept-then (c .before .before .before .before .before .before .before .init-begin .ensures .1 .0) (c .before .before .boot .ensures .1 .0), record { told = λ r j₀ at. simp (sym (ap (λ (w : Machine). eqb (w .head .«boot_mode») 3) (at .machine)) ∙ other) (c .before .before .boot .ensures .1 .1 .told _ j₀ (c .before .before .before .before .before .before .before .init-begin .ensures .0 .does r j₀ at)) })))
+returns-2 c =
+    let booted : tie.After-boot = search in
+    let else1 : tie.Else1 = search in
+    let begun : tie.After-init-begin = search in
+    let start : tie.Start = search in
+    let other = ne-eqb (start .args .m .head .«boot_mode») 3 (else1 .if1 .left) in
+    let done = begun .init-begin .ensures then booted .boot .ensures .0 in (
+      by-head (initOn (start .args .p) _) (rw other done),
+      record {
+        told = λ r j₀ at.
+            simp (sym (ap (λ (w : Machine). eqb (w .head .«boot_mode») 3) (at .machine)) ∙ other)
+            (booted .boot .ensures .1 .told _ j₀ (begun .init-begin .ensures .ran .does r j₀ at));
+      },
+    )
 
 pub init-spec : {M : Type 1} → statement M
 init-spec =

@@ -1,8 +1,7 @@
 -- `init_first::boot_stores` meets its contract: one store after the other. Assumes nothing.
-use Rattle.journal.proofs.Steps.{both-quiet}
 use Rattle.init_first.specs.First.{bootStores}
 use Rattle.init_first.proofs.Fits.{low-power-fits, lrc32-fits, buffer-fits}
-use Rattle.journal.proofs.Does.{clauses}
+use Rattle.journal.proofs.Does.{_then_}
 use borrow.Author.Needs.{needs}
 use Rattle.init_first.proofs.boot_stores.Statement.{statement}
 use Rattle.init_first.proofs.boot_stores.Tie as tie
@@ -21,7 +20,11 @@ same-length c = search needs
 
 returns : tie.Need-returns
 unfolding bootStores
-returns c = both-quiet (both-quiet (clauses (c .before .before .before .before .before .before .before .before .before .before .store .ensures)) (clauses (c .before .before .before .before .before .before .store2 .ensures))) (clauses (c .before .before .store3 .ensures))
+returns c =
+    let buffer : tie.After-store3 = search in
+    let clock : tie.After-store2 = search in
+    let lrc32 : tie.After-store = search in
+    lrc32 .store .ensures then clock .store2 .ensures then buffer .store3 .ensures
 
 pub boot-stores-spec : {M : Type 1} → statement M
 boot-stores-spec =

@@ -1,6 +1,6 @@
 -- `init_first::calibrate` meets its contract: the flag picks the case. Assumes nothing.
-use Rattle.journal.proofs.Steps.{no-step, both}
 use Rattle.init_first.specs.First.{calibrating}
+use Rattle.journal.proofs.Does.{_then_, does-nothing}
 use borrow.Author.Needs.{needs}
 use Rattle.init_first.proofs.calibrate.Statement.{statement}
 use Rattle.init_first.proofs.calibrate.Tie as tie
@@ -16,11 +16,17 @@ same-length c = search needs
 
 returns : tie.Need-returns
 unfolding calibrating
-returns c = rw (c .before .before .before .before .before .before .before .before .if1 .taken) (both (c .before .before .before .before .before .before .leave-hrc48 .ensures) (c .before .before .calibrate-in-rest .ensures))
+returns c =
+    let calibrated : tie.After-calibrate-in-rest = search in
+    let left : tie.After-leave-hrc48 = search in
+    let then1 : tie.Then1 = search in
+    rw (then1 .if1 .taken) (left .leave-hrc48 .ensures then calibrated .calibrate-in-rest .ensures)
 
 returns-2 : tie.Need-returns-2
 unfolding calibrating
-returns-2 c = rw (c .if1 .left) (no-step 58 _ _ (c .before .before .before .pre .0 .encodable) (c .before .before .before .pre .1 .0))
+returns-2 c =
+    let start : tie.Start = search in
+    rw (c .if1 .left) (does-nothing (start .pre))
 
 pub calibrate-spec : {M : Type 1} → statement M
 calibrate-spec =

@@ -1,11 +1,9 @@
 -- `init_first::init_first` meets its contract: one step after the other, and the warning is that of the second. Assumes nothing.
-use native.Mathlib.Omega.{arith}
-use mathlib.Core.Path.{_≡_, refl, sym, ap, _∙_}
+use mathlib.Core.Path.{ap, _∙_}
 use Rattle.journal.specs.declared.Machine.{Machine}
-use Rattle.journal.proofs.Steps.{both, kept-then}
-use Rattle.journal.proofs.Reached.{ran-then}
 use Rattle.init_first.specs.warning.{warning}
 use Rattle.init_first.specs.First.{initFirst}
+use Rattle.journal.proofs.Does.{_then_, beside}
 use borrow.Author.Needs.{needs}
 use Rattle.init_first.proofs.init_first.Statement.{statement}
 use Rattle.init_first.proofs.init_first.Tie as tie
@@ -24,7 +22,12 @@ same-length c = search needs
 
 returns : tie.Need-returns
 unfolding initFirst
-returns c = let two = both (c .before .before .before .before .before .before .before .boot-stores .ensures) (c .before .before .before .calibrate .ensures) in (ran-then (two .0) (c .swallow .ensures .0 _), (kept-then (two .1 .0) (c .swallow .ensures .1 .0), (omega (arith, two .1 .1, c .swallow .ensures .1 .1 .0), record { told = λ r j₀ at. c .swallow .ensures .1 .1 .1 ∙ ap (λ (w : Machine). warning (w .stop)) (two .0 .does r j₀ at .machine) })))
+returns c =
+    let calibrated : tie.After-calibrate = search in
+    let stored : tie.After-boot-stores = search in
+    let swallowed = c .swallow .ensures in
+    let done = stored .boot-stores .ensures then calibrated .calibrate .ensures in
+    (done then beside (swallowed .0), record { told = λ r j₀ at. swallowed .1 ∙ ap (λ (w : Machine). warning (w .stop)) (done .ran .does r j₀ at .machine) })
 
 pub init-first-spec : {M : Type 1} → statement M
 init-first-spec =

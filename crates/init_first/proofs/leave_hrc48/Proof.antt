@@ -1,16 +1,9 @@
 -- `init_first::leave_hrc48` meets its contract: the tests pick the case. Assumes nothing.
 use native.Mathlib.Omega.{arith}
-use mathlib.Core.Path.{refl}
-use mathlib.Core.Bool.{cond}
-use lib.Dec.{eqb}
 use borrow.Author.Tests.{eq-eqb, ne-eqb}
-use Rattle.head.specs.declared.Head.{Head}
-use Rattle.clock_read.specs.Hpsys.{reg}
-use Rattle.journal.specs.Run.{idle, halted, store}
-use Rattle.journal.proofs.Steps.{no-step, kept-within, of-head}
-use Rattle.init_first.specs.First.{leaveHrc48}
+use Rattle.init_first.specs.First.{leaveHrc48On, leaveHrc48}
 use Rattle.init_first.proofs.Fits.{sysclk-fits}
-use Rattle.journal.proofs.Does.{clauses, clauses-beside}
+use Rattle.journal.proofs.Does.{does-within, by-head, does-nothing, beside}
 use borrow.Author.Needs.{needs}
 use Rattle.init_first.proofs.leave_hrc48.Statement.{statement}
 use Rattle.init_first.proofs.leave_hrc48.Tie as tie
@@ -20,7 +13,9 @@ element-copy-out-select c = search needs
 
 returns : tie.Need-returns
 unfolding leaveHrc48
-returns c = of-head (λ (h : Head). cond (eqb (reg h 1) 0) (cond (h .«hxt48_ready») (store 1 1) (halted 32)) idle) (rw (ne-eqb _ _ (c .if1 .taken)) (no-step 1 _ _ (c .before .before .before .before .pre .encodable) refl))
+returns c =
+    let start : tie.Start = search in
+    by-head leaveHrc48On (rw (ne-eqb _ _ (c .if1 .taken)) (does-nothing (start .pre)))
 
 store-requires : tie.Need-store-requires
 store-requires c κs = (search needs, (search needs, sysclk-fits))
@@ -30,14 +25,21 @@ same-length c = search needs
 
 returns-2 : tie.Need-returns-2
 unfolding leaveHrc48
-returns-2 c = of-head (λ (h : Head). cond (eqb (reg h 1) 0) (cond (h .«hxt48_ready») (store 1 1) (halted 32)) idle) (simp (eq-eqb _ _ (c .before .before .before .before .before .if1 .left), c .before .before .before .before .if2 .taken) (clauses (c .before .before .store .ensures)))
+returns-2 c =
+    let stored : tie.After-store = search in
+    let then2 : tie.Then2 = search in
+    let else1 : tie.Else1 = search in
+    by-head leaveHrc48On (simp (eq-eqb _ _ (else1 .if1 .left), then2 .if2 .taken) (stored .store .ensures))
 
 refuse-requires : tie.Need-refuse-requires
 refuse-requires c κs = search needs
 
 returns-3 : tie.Need-returns-3
 unfolding leaveHrc48
-returns-3 c = of-head (λ (h : Head). cond (eqb (reg h 1) 0) (cond (h .«hxt48_ready») (store 1 1) (halted 32)) idle) (simp (eq-eqb _ _ (c .before .before .if1 .left), c .before .if2 .left) (clauses-beside (c .refuse .ensures) .0 _, (kept-within (omega arith) (clauses-beside (c .refuse .ensures) .1 .0), clauses-beside (c .refuse .ensures) .1 .1)))
+returns-3 c =
+    let else2 : tie.Else2 = search in
+    let else1 : tie.Else1 = search in
+    by-head leaveHrc48On (simp (eq-eqb _ _ (else1 .if1 .left), else2 .if2 .left) (does-within (omega arith) (beside (c .refuse .ensures))))
 
 pub leave-hrc48-spec : {M : Type 1} → statement M
 leave-hrc48-spec =

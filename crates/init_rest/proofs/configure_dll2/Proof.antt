@@ -1,5 +1,5 @@
 -- `init_rest::configure_dll2` meets its contract: the plan has DLL2 or has not. Assumes nothing.
-use Rattle.journal.proofs.Steps.{no-step}
+use Rattle.journal.proofs.Does.{does-nothing}
 use borrow.Author.Needs.{needs}
 use Rattle.init_rest.proofs.configure_dll2.Statement.{statement}
 use Rattle.init_rest.proofs.configure_dll2.Tie as tie
@@ -11,16 +11,24 @@ enum-told : tie.Need-enum-told
 enum-told c = search needs
 
 returns : tie.Need-returns
-returns c = rw (c .enum-told .given .1) (no-step 8 _ _ (c .before .before .before .before .pre .0 .encodable) (c .before .before .before .before .pre .1 .0 .0))
+returns c =
+    let start : tie.Start = search in
+    rw (c .enum-told .given .1) (does-nothing (start .pre .0))
 
 set-dll2-requires : tie.Need-set-dll2-requires
-set-dll2-requires c κs = (search needs, (search needs, rw (c .before .before .dll2 .given .1) at (c .before .before .before .before .before .before .pre .1 .1)))
+set-dll2-requires c κs =
+    let present : tie.After-dll2 = search in
+    let start : tie.Start = search in
+    (search needs, rw (present .dll2 .given .1) at (start .pre .1))
 
 same-length : tie.Need-same-length
 same-length c = search needs
 
 returns-2 : tie.Need-returns-2
-returns-2 c = rw (c .before .before .before .before .before .dll2 .given .1) (c .before .before .set-dll2 .ensures)
+returns-2 c =
+    let set : tie.After-set-dll2 = search in
+    let present : tie.After-dll2 = search in
+    rw (present .dll2 .given .1) (set .set-dll2 .ensures)
 
 pub configure-dll2-spec : {M : Type 1} → statement M
 configure-dll2-spec =

@@ -1,7 +1,5 @@
 -- `init_rest::is_set` meets its contract: the tests in their order. Assumes nothing.
-use mathlib.Core.Path.{refl}
 use borrow.Author.Tests.{eq-eqb, ne-eqb}
-use Rattle.register.specs.Word.{bit}
 use Rattle.init_rest.specs.Rest.{isSet}
 use borrow.Author.Needs.{needs}
 use Rattle.init_rest.proofs.is_set.Statement.{statement}
@@ -12,7 +10,9 @@ a-requires c κs = search needs
 
 returns : tie.Need-returns
 unfolding isSet
-returns c = simp (← c .before .a .ensures, ne-eqb _ _ (c .if1 .taken))
+returns c =
+    let on : tie.After-a = search in
+    simp (← on .a .ensures, ne-eqb _ _ (c .if1 .taken))
 
 c-requires : tie.Need-c-requires
 c-requires c κs = search needs
@@ -22,21 +22,37 @@ cast-if2 c = search needs
 
 returns-2 : tie.Need-returns-2
 unfolding isSet
-returns-2 c = simp (← c .before .before .before .a .ensures, eq-eqb _ _ (c .before .before .if1 .left), ← c .before .c .ensures, ne-eqb _ _ (c .if2 .taken))
+returns-2 c =
+    let stage : tie.After-c = search in
+    let else1 : tie.Else1 = search in
+    let on : tie.After-a = search in
+    simp (← on .a .ensures, eq-eqb _ _ (else1 .if1 .left), ← stage .c .ensures, ne-eqb _ _ (c .if2 .taken))
 
 b-requires : tie.Need-b-requires
 b-requires c κs = search needs
 
 returns-3 : tie.Need-returns-3
 unfolding isSet
-returns-3 c = simp (← c .before .before .before .before .before .a .ensures, eq-eqb _ _ (c .before .before .before .before .if1 .left), ← c .before .before .before .c .ensures, eq-eqb _ _ (c .before .before .if2 .left), ← c .b .ensures, c .before .if3 .taken)
+returns-3 c =
+    let then3 : tie.Then3 = search in
+    let else2 : tie.Else2 = search in
+    let stage : tie.After-c = search in
+    let else1 : tie.Else1 = search in
+    let on : tie.After-a = search in
+    simp (← on .a .ensures, eq-eqb _ _ (else1 .if1 .left), ← stage .c .ensures, eq-eqb _ _ (else2 .if2 .left), ← c .b .ensures, then3 .if3 .taken)
 
 b-requires-2 : tie.Need-b-requires-2
 b-requires-2 c κs = search needs
 
 returns-4 : tie.Need-returns-4
 unfolding isSet
-returns-4 c = simp (← c .before .before .before .before .before .a .ensures, eq-eqb _ _ (c .before .before .before .before .if1 .left), ← c .before .before .before .c .ensures, eq-eqb _ _ (c .before .before .if2 .left), ← c .b2 .ensures, c .before .if3 .left)
+returns-4 c =
+    let else3 : tie.Else3 = search in
+    let else2 : tie.Else2 = search in
+    let stage : tie.After-c = search in
+    let else1 : tie.Else1 = search in
+    let on : tie.After-a = search in
+    simp (← on .a .ensures, eq-eqb _ _ (else1 .if1 .left), ← stage .c .ensures, eq-eqb _ _ (else2 .if2 .left), ← c .b2 .ensures, else3 .if3 .left)
 
 pub is-set-spec : {M : Type 1} → statement M
 is-set-spec =

@@ -1,9 +1,8 @@
 -- `init_rest::move_dll2` meets its contract: one step after the other. Assumes nothing.
 use native.Mathlib.Omega.{arith}
 use Rattle.register.proofs.Fits.{zero-fits}
-use Rattle.journal.proofs.Steps.{both, then-quiet}
 use Rattle.init_rest.specs.Rest.{moveDll2}
-use Rattle.journal.proofs.Does.{clauses, clauses-taking}
+use Rattle.journal.proofs.Does.{_then_}
 use borrow.Author.Needs.{needs}
 use Rattle.init_rest.proofs.move_dll2.Statement.{statement}
 use Rattle.init_rest.proofs.move_dll2.Tie as tie
@@ -22,7 +21,11 @@ same-length c = search needs
 
 returns : tie.Need-returns
 unfolding moveDll2
-returns c = then-quiet (both (clauses (c .before .before .before .before .before .before .before .before .before .before .store .ensures)) (clauses-taking (c .before .before .before .before .before .before .configure-dll .ensures))) (clauses (c .before .before .store2 .ensures))
+returns c =
+    let back : tie.After-store2 = search in
+    let set : tie.After-configure-dll = search in
+    let away : tie.After-store = search in
+    away .store .ensures then set .configure-dll .ensures then back .store2 .ensures
 
 pub move-dll2-spec : {M : Type 1} → statement M
 move-dll2-spec =

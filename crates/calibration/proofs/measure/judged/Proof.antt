@@ -2,9 +2,10 @@
 use native.Mathlib.Omega.{arith}
 use mathlib.Core.Path.{refl}
 use borrow.Author.Tests.{lt-ltb, le-ltb}
+use Rattle.journal.specs.Run.{idle}
+use Rattle.journal.specs.Machine.{DoesWithoutJournal}
 use Rattle.journal.proofs.Reached.{ran-idle}
 use Rattle.calibration.specs.measure.{judged}
-use Rattle.journal.proofs.Does.{clauses-beside}
 use borrow.Author.Needs.{needs}
 use Rattle.calibration.proofs.measure.judged.Statement.{statement}
 use Rattle.calibration.proofs.measure.judged.Tie as tie
@@ -14,11 +15,17 @@ refuse-requires c κs = search needs
 
 returns : tie.Need-returns
 unfolding judged
-returns c = simp (lt-ltb 160 (c .before .before .args .diff) (omega (arith, c .before .if1 .taken))) (clauses-beside (c .refuse .ensures))
+returns c =
+    let then1 : tie.Then1 = search in
+    let start : tie.Start = search in
+    simp (lt-ltb 160 (start .args .diff) (omega (arith, then1 .if1 .taken))) (c .refuse .ensures)
 
 returns-2 : tie.Need-returns-2
 unfolding judged
-returns-2 c = simp (le-ltb 160 (c .before .args .diff) (omega (arith, c .if1 .left))) (λ j. ran-idle _ j, (record { room = omega arith; encodable = c .before .pre }, refl))
+returns-2 c =
+    let start : tie.Start = search in
+    let unchanged : DoesWithoutJournal idle (start .args .m) (start .args .m) = record { ran = λ j. ran-idle _ j; room = omega arith; encodable = start .pre; answers = refl } in
+    simp (le-ltb 160 (start .args .diff) (omega (arith, c .if1 .left))) unchanged
 
 pub judged-spec : {M : Type 1} → statement M
 judged-spec = tie.close (tie.spec refuse-requires returns returns-2)

@@ -1,8 +1,7 @@
 -- `init_first::begin::init_begin` meets its contract: one step after the other. Assumes nothing.
-use Rattle.journal.proofs.Steps.{then-quiet}
 use Rattle.init_first.specs.begin.{initBegin}
-use Rattle.init_first.proofs.begin.Fits.{peri-fits}
-use Rattle.journal.proofs.Does.{clauses}
+use Rattle.init_first.proofs.Fits.{peri-fits}
+use Rattle.journal.proofs.Does.{_then_}
 use borrow.Author.Needs.{needs}
 use Rattle.init_first.proofs.begin.init_begin.Statement.{statement}
 use Rattle.init_first.proofs.begin.init_begin.Tie as tie
@@ -18,7 +17,10 @@ same-length c = search needs
 
 returns : tie.Need-returns
 unfolding initBegin
-returns c = then-quiet (c .before .before .before .before .before .before .start-hxt48 .ensures) (clauses (c .before .before .store .ensures))
+returns c =
+    let selected : tie.After-store = search in
+    let started : tie.After-start-hxt48 = search in
+    started .start-hxt48 .ensures then selected .store .ensures
 
 pub init-begin-spec : {M : Type 1} → statement M
 init-begin-spec = tie.close (tie.spec start-hxt48-requires store-requires same-length returns)

@@ -1,15 +1,8 @@
 -- `init_first::begin::start_hxt48` meets its contract: the test picks the case. Assumes nothing.
-use mathlib.Core.Bool.{cond}
-use lib.Dec.{eqb}
 use borrow.Author.Tests.{eq-eqb, ne-eqb}
-use Rattle.head.specs.declared.Head.{Head}
-use Rattle.clock_read.specs.Hpsys.{reg}
-use Rattle.journal.specs.Run.{idle, _▸_, store, waitHxt48}
-use Rattle.journal.proofs.Steps.{no-step, both, of-head}
-use Rattle.init_first.specs.begin.{startHxt48}
-use Rattle.init_first.proofs.begin.Fits.{hxt48-fits}
-use native.Mathlib.Omega.{arith}
-use Rattle.journal.proofs.Does.{clauses, clauses-taking}
+use Rattle.init_first.specs.begin.{startHxt48On, startHxt48}
+use Rattle.init_first.proofs.Fits.{hxt48-fits}
+use Rattle.journal.proofs.Does.{_then_, by-head, does-nothing}
 use borrow.Author.Needs.{needs}
 use Rattle.init_first.proofs.begin.start_hxt48.Statement.{statement}
 use Rattle.init_first.proofs.begin.start_hxt48.Tie as tie
@@ -19,7 +12,9 @@ element-copy-out-select c = search needs
 
 returns : tie.Need-returns
 unfolding startHxt48
-returns c = of-head (λ (h : Head). cond (eqb (reg h 1) 1) (store 22 1 ▸ waitHxt48 (c .before .before .before .before .before .args .answers .now)) idle) (rw (ne-eqb _ 1 (c .if1 .taken)) (no-step 2 _ _ (c .before .before .before .before .before .pre .0 .encodable) (c .before .before .before .before .before .pre .1 .0)))
+returns c =
+    let start : tie.Start = search in
+    by-head (startHxt48On _) (rw (ne-eqb _ 1 (c .if1 .taken)) (does-nothing (start .pre)))
 
 store-requires : tie.Need-store-requires
 store-requires c κs = (search needs, (search needs, hxt48-fits))
@@ -32,7 +27,11 @@ same-length c = search needs
 
 returns-2 : tie.Need-returns-2
 unfolding startHxt48
-returns-2 c = of-head (λ (h : Head). cond (eqb (reg h 1) 1) (store 22 1 ▸ waitHxt48 (c .before .before .before .before .before .before .before .before .before .before .before .before .before .args .answers .now)) idle) (rw (eq-eqb (reg (c .before .before .before .before .before .before .before .before .before .before .before .before .before .args .m .head) 1) 1 (omega (arith, c .before .before .before .before .before .before .before .before .if1 .left))) (both (clauses (c .before .before .before .before .before .before .store .ensures)) (clauses-taking (c .before .before .wait-hxt48 .ensures))))
+returns-2 c =
+    let waited : tie.After-wait-hxt48 = search in
+    let asked : tie.After-store = search in
+    let else1 : tie.Else1 = search in
+    by-head (startHxt48On _) (rw (eq-eqb _ 1 (else1 .if1 .left)) (asked .store .ensures then waited .wait-hxt48 .ensures))
 
 pub start-hxt48-spec : {M : Type 1} → statement M
 start-hxt48-spec =

@@ -1,7 +1,6 @@
 -- `init_rest::flash::flash_back` meets its contract: each select is set back by itself. Assumes nothing.
-use mathlib.Core.Path.{refl}
 use Rattle.init_rest.specs.flash.{flashBack}
-use Rattle.init_rest.proofs.flash.Fits.{flash-fits}
+use Rattle.init_rest.proofs.Fits.{flash-fits}
 use borrow.Author.Needs.{needs}
 use Rattle.init_rest.proofs.flash.flash_back.Statement.{statement}
 use Rattle.init_rest.proofs.flash.flash_back.Tie as tie
@@ -23,7 +22,14 @@ word-requires c κs = search needs
 
 returns : tie.Need-returns
 unfolding flashBack
-returns c = (simp (c .word .ensures, c .before .before .before .back-to .ensures .0, c .before .back-to2 .ensures .0, c .before .before .before .before .b .ensures, c .before .before .c .ensures), rw (c .word .ensures) (flash-fits _ _ (c .before .before .before .back-to .ensures .1) (c .before .back-to2 .ensures .1)))
+returns c =
+    let second : tie.After-back-to2 = search in
+    let old-second : tie.After-c = search in
+    let first : tie.After-back-to = search in
+    let old-first : tie.After-b = search in
+    let word = c .word .ensures in
+    let fits = flash-fits _ _ (first .back-to .ensures .1) (second .back-to2 .ensures .1) in
+    (simp (word, first .back-to .ensures .0, second .back-to2 .ensures .0, old-first .b .ensures, old-second .c .ensures), rw word fits)
 
 pub flash-back-spec : {M : Type 1} → statement M
 flash-back-spec =

@@ -1,10 +1,9 @@
 -- `init_rest::selects::configure_muxes` meets its contract: one store after the other. Assumes nothing.
 use native.Mathlib.Omega.{arith}
 use Rattle.register.proofs.Fits.{zero-fits}
-use Rattle.journal.proofs.Steps.{both-quiet}
 use Rattle.init_rest.specs.selects.{plannedMuxes}
-use Rattle.init_rest.proofs.selects.Fits.{peri-fits, wdt-fits}
-use Rattle.journal.proofs.Does.{clauses}
+use Rattle.init_rest.proofs.Fits.{peri-fits, wdt-fits}
+use Rattle.journal.proofs.Does.{_then_}
 use borrow.Author.Needs.{needs}
 use Rattle.init_rest.proofs.selects.configure_muxes.Statement.{statement}
 use Rattle.init_rest.proofs.selects.configure_muxes.Tie as tie
@@ -16,10 +15,14 @@ cast-wdtsel : tie.Need-cast-wdtsel
 cast-wdtsel c = search needs
 
 store-requires : tie.Need-store-requires
-store-requires c κs = (search needs, (search needs, peri-fits (c .before .before .before .before .args .p) (c .before .before .before .before .pre .1)))
+store-requires c κs =
+    let start : tie.Start = search in
+    (search needs, (search needs, peri-fits (start .args .p) (start .pre .1)))
 
 store-requires-2 : tie.Need-store-requires-2
-store-requires-2 c κs = (search needs, (search needs, wdt-fits (c .before .before .before .before .before .before .before .before .args .p) (c .before .before .before .before .before .before .before .before .pre .1)))
+store-requires-2 c κs =
+    let start : tie.Start = search in
+    (search needs, (search needs, wdt-fits (start .args .p) (start .pre .1)))
 
 store-requires-3 : tie.Need-store-requires-3
 store-requires-3 c κs = (search needs, (search needs, zero-fits 9 (omega arith)))
@@ -29,7 +32,11 @@ same-length c = search needs
 
 returns : tie.Need-returns
 unfolding plannedMuxes
-returns c = both-quiet (both-quiet (clauses (c .before .before .before .before .before .before .before .before .before .before .store .ensures)) (clauses (c .before .before .before .before .before .before .store2 .ensures))) (clauses (c .before .before .store3 .ensures))
+returns c =
+    let tick : tie.After-store3 = search in
+    let low-power : tie.After-store2 = search in
+    let peripheral : tie.After-store = search in
+    peripheral .store .ensures then low-power .store2 .ensures then tick .store3 .ensures
 
 pub configure-muxes-spec : {M : Type 1} → statement M
 configure-muxes-spec =
