@@ -17,7 +17,7 @@ use Rattle.journal.specs.Run.{Run, begin, going, halted, store, cycles, delay, 
 use Rattle.head.specs.declared.Head.{Head}
 use Rattle.lpsys_request.specs.modes.{dividerFor}
 use Rattle.lpsys_request.proofs.modes.Divider.{source-48}
-use Rattle.head.specs.from_bytes.Record.{lengthFits, headRefusal, headOf, frontOf, stateOf, recordOf, written}
+use Rattle.head.specs.from_bytes.Record.{bufferBytes, lengthFits, headRefusal, headOf, frontOf, stateOf, recordOf, written}
 use Rattle.record.specs.Items.{items, joined}
 use Rattle.register.specs.Word.{wordIn, wordBytes}
 use Rattle.register.specs.Codes.{largest}
@@ -155,7 +155,7 @@ abbrev task : ℕ → ℕ → Task
 task id cycles = record { id = id; cycles = cycles; period = 1000 }
 
 abbrev buffer : List ℕ
-buffer = written at240 (replicate 255 0)
+buffer = written at240 (replicate bufferBytes 0)
 
 abbrev first : Result
 first = book (task 1 120000) buffer

@@ -26,7 +26,7 @@ use Rattle.record.specs.four.{fourIn, fourBytes}
 use Rattle.task.specs.bytes.{taskIn, taskBytes, tasksIn, tasksFit, placesIn}
 use Rattle.load.specs.Load.{shareOf, loadOf}
 use Rattle.head.specs.declared.Head.{Head}
-use Rattle.head.specs.from_bytes.Record.{lengthFits, headRefusal, headOf, frontOf, stateOf, recordOf, written}
+use Rattle.head.specs.from_bytes.Record.{bufferBytes, lengthFits, headRefusal, headOf, frontOf, stateOf, recordOf, written}
 use Rattle.clock_read.specs.Hpsys.{dllReading, sysOf, hclkOf}
 use Rattle.clock_read.specs.lpsys.{lpsysSysOf, lpsysHclkOf}
 use Rattle.journal.specs.Run.{going, store, delay, poll, wait}
@@ -69,7 +69,7 @@ head48 =
     }
 
 abbrev bytes48 : List ℕ
-bytes48 = written head48 (replicate 255 0)
+bytes48 = written head48 (replicate bufferBytes 0)
 
 abbrev journal : List ℕ
 journal = replicate 128 0
@@ -153,6 +153,6 @@ abbrev sixteen : ℕ → List Task
 sixteen zero = []
 sixteen (suc n) = task (suc n) 1 ∷ sixteen n
 
-full-example : answers (written (holding (sixteen 16) head48) (replicate 255 0)) (booking (task 17 1) ∷ []) ≡ 41 ∷ []
+full-example : answers (written (holding (sixteen 16) head48) (replicate bufferBytes 0)) (booking (task 17 1) ∷ []) ≡ 41 ∷ []
 unfolding headRefusal firstOf lengthFits isWithin largest tasksFit tasksIn items taskIn fourIn allOk taskOk distinct hasId headOf registersIn wordIn placesIn written recordOf frontOf stateOf joined wordBytes taskBytes fourBytes fits lit railLimit higher met vrefOf hclkOf sysOf dllReading dllHz divided lpsysHclkOf lpsysSysOf verdict decoded recordRefusal coded settled planOf dllOf verdictOf planRefusal legal encoded coreOnAbsentDll1 coreOnDbl96 flashOnAbsentDll usbOnAbsentDll2 usbNot60 dll1CoreTooSlow hclkTooFast pclk1TooFast pclk2TooFast dll2TooFast usbHz sysHz hclkHz pclk1Hz pclk2Hz shifted targetOf usbDivider changeCall performed change peakOf highest modeAt modeOf raise leaveDll1 toHxt48 toPlanned backTo dividers configureDll setDll relocked dllOff dllOn hpbgOn vddpswOn d2sFirst s2dFirst s2dSecond sxModeVolt timing store going delay wait poll loadOf shareOf book release without lpsysRequest request setHdiv dividerFor presentMode requestMode lpsysModeOf lpsysD2sFirst lpsysS2dFirst lpsysS2dSecond
 full-example = refl

@@ -3,13 +3,11 @@ ghost use mathlib.Core.Path.{_≡_};
 ghost use Prim.Native.Nat.{_≤_};
 ghost use lib.ListN.{length};
 ghost use Rattle.task.specs.bytes.{countIn};
-ghost use Rattle.head.specs.from_bytes.Record.{bufferBytes, lengthFits, headRefusal, headOf, blank};
+ghost use Rattle.layout.specs.Layout.{mostTasks, lengthOf, bufferBytes};
+ghost use Rattle.head.specs.from_bytes.Record.{lengthFits, headRefusal, headOf, blank};
 ghost use Rattle.head.specs.from_bytes.Decodes.{Decodes};
 use crate::Head;
 use task::Task;
-
-// A head's record stands at the front of a buffer of so many bytes.
-pub const BUFFER_BYTES: usize = 255;
 
 // What decoding answers: a refusal, 0 for none, and the head, blank on a refusal.
 pub struct Decoded {
@@ -17,18 +15,25 @@ pub struct Decoded {
     pub head: Head,
 }
 
+// The length of a record with so many tasks.
+pub fn length_of(count: u8) -> usize
+    ensures { λ r. ⌜ r ≡ lengthOf count ⌝ }
+{
+    layout::LENGTH_WITHOUT_TASKS + layout::TASK_SIZE * (count as usize)
+}
+
 // Whether the buffer's length, the task count and the record's length fit each other.
 fn length_fits(buffer: &[u8]) -> bool
     ensures { λ r. ⌜ r ≡ lengthFits (now (buffer .entry)) ⌝ }
 {
-    if buffer.len() != BUFFER_BYTES {
+    if buffer.len() != layout::BUFFER_BYTES {
         return false;
     }
-    let count = buffer[110];
-    if 16 < count {
+    let count = buffer[layout::TASK_COUNT_AT];
+    if layout::MOST_TASKS < count as usize {
         return false;
     }
-    record::two_bytes(buffer[0], buffer[1]) == 109 + 9 * (count as u16)
+    record::two_bytes(buffer[0], buffer[1]) as usize == length_of(count)
 }
 
 // The first refusal of a record, 0 where there is none.
@@ -38,7 +43,7 @@ fn refusal(buffer: &[u8]) -> u8
     if !length_fits(buffer) {
         return 1;
     }
-    if buffer[2] != 1 {
+    if buffer[layout::VERSION_AT] != 1 {
         return 2;
     }
     if !register::bytes::codes::within(buffer) {
@@ -59,7 +64,7 @@ fn blank_head() -> Head
         period: 0,
     };
     let regs = [0u32; 35];
-    let tasks = [none; 16];
+    let tasks = [none; layout::MOST_TASKS];
     Head {
         regs,
         hxt48_ready: false,
@@ -74,20 +79,20 @@ fn blank_head() -> Head
 
 // The head of a record that is not refused.
 fn read(buffer: &[u8]) -> Head
-    requires { ⌜ (length (now buffer) ≡ bufferBytes) × (countIn (now buffer) ≤ 16) ⌝ }
+    requires { ⌜ (length (now buffer) ≡ bufferBytes) × (countIn (now buffer) ≤ mostTasks) ⌝ }
     ensures { λ r. ⌜ r ≡ headOf (now (buffer .entry)) ⌝ }
 {
     let regs = register::bytes::read(buffer);
     let tasks = task::bytes::read(buffer);
     Head {
         regs,
-        hxt48_ready: buffer[105] == 1,
-        hrc48_ready: buffer[106] == 1,
-        lpsys_hxt48_ready: buffer[107] == 1,
-        boot_mode: buffer[108],
-        wake_count: buffer[109],
+        hxt48_ready: buffer[layout::HXT48_READY_AT] == 1,
+        hrc48_ready: buffer[layout::HRC48_READY_AT] == 1,
+        lpsys_hxt48_ready: buffer[layout::LPSYS_HXT48_READY_AT] == 1,
+        boot_mode: buffer[layout::BOOT_MODE_AT],
+        wake_count: buffer[layout::WAKE_COUNT_AT],
         tasks,
-        count: buffer[110],
+        count: buffer[layout::TASK_COUNT_AT],
     }
 }
 

@@ -14,6 +14,6 @@ pub struct Head {
     pub boot_mode: u8,
     pub wake_count: u8,
     // The first `count` are booked; those past them are all zero.
-    pub tasks: [Task; 16],
+    pub tasks: [Task; layout::MOST_TASKS],
     pub count: u8,
 }

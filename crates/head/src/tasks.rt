@@ -3,6 +3,7 @@ ghost use mathlib.Core.Path.{_≡_};
 ghost use mathlib.Core.Bool.{true};
 ghost use Prim.Native.Nat.{_≤_, _<_};
 ghost use lib.ListN.{take};
+ghost use Rattle.layout.specs.Layout.{mostTasks};
 ghost use Rattle.task.specs.Task.{hasId};
 ghost use Rattle.head.specs.Head.{booked};
 ghost use Rattle.head.specs.Encodable.{Encodable};
@@ -13,7 +14,7 @@ use task::Task;
 // A head with a task booked last.
 pub fn with_task(head: Head, task: Task) -> Head
     requires { ⌜ Encodable head ⌝ }
-    requires { ⌜ head .count < 16 ⌝ }
+    requires { ⌜ head .count < mostTasks ⌝ }
     ensures { λ r. ⌜ r ≡ withTask task head ⌝ }
 {
     let mut head = head;
@@ -26,8 +27,8 @@ pub fn with_task(head: Head, task: Task) -> Head
 }
 
 // The place of the first of `count` tasks that has the id, `count` where none has.
-fn place_of(tasks: [Task; 16], count: u8, id: u8) -> usize
-    requires { ⌜ count ≤ 16 ⌝ }
+fn place_of(tasks: [Task; layout::MOST_TASKS], count: u8, id: u8) -> usize
+    requires { ⌜ count ≤ mostTasks ⌝ }
     ensures { λ r. ⌜ r ≡ placeOf id (take count tasks) ⌝ }
 {
     let end = count as usize;
@@ -43,8 +44,8 @@ fn place_of(tasks: [Task; 16], count: u8, id: u8) -> usize
 }
 
 // The places with the one at `at` taken out and the later ones moved up.
-fn moved_up(tasks: [Task; 16], at: usize) -> [Task; 16]
-    requires { ⌜ at < 16 ⌝ }
+fn moved_up(tasks: [Task; layout::MOST_TASKS], at: usize) -> [Task; layout::MOST_TASKS]
+    requires { ⌜ at < mostTasks ⌝ }
     ensures { λ r. ⌜ r ≡ movedUp at tasks ⌝ }
 {
     let mut tasks = tasks;

@@ -4,18 +4,19 @@ ghost use Prim.Native.Nat.{_≤_};
 ghost use lib.ListN.{length};
 ghost use Rattle.record.specs.Items.{laid};
 ghost use Rattle.register.specs.Word.{bit};
-ghost use Rattle.head.specs.from_bytes.Record.{bufferBytes, frontOf, stateOf, written};
+ghost use Rattle.layout.specs.Layout.{hxt48ReadyAt, mostTasks, bufferBytes};
+ghost use Rattle.head.specs.from_bytes.Record.{frontOf, stateOf, written};
 use crate::Head;
 
 // The length and the version.
 fn write_front(count: u8, buffer: &mut [u8])
-    requires { ⌜ (length (now buffer) ≡ bufferBytes) × (count ≤ 16) ⌝ }
+    requires { ⌜ (length (now buffer) ≡ bufferBytes) × (count ≤ mostTasks) ⌝ }
     ensures { λ _. ⌜ now (buffer .exit) ≡ laid 0 (frontOf count) (now (buffer .entry)) ⌝ }
 {
-    let length = 109 + 9 * (count as u16);
+    let length = crate::from_bytes::length_of(count);
     buffer[0] = (length / 256) as u8;
     buffer[1] = (length % 256) as u8;
-    buffer[2] = 1;
+    buffer[layout::VERSION_AT] = 1;
 }
 
 fn flag(on: bool) -> u8
@@ -27,19 +28,19 @@ fn flag(on: bool) -> u8
 // The ready flags, boot mode, wake count and task count.
 fn write_state(head: Head, buffer: &mut [u8])
     requires { ⌜ length (now buffer) ≡ bufferBytes ⌝ }
-    ensures { λ _. ⌜ now (buffer .exit) ≡ laid 105 (stateOf head) (now (buffer .entry)) ⌝ }
+    ensures { λ _. ⌜ now (buffer .exit) ≡ laid hxt48ReadyAt (stateOf head) (now (buffer .entry)) ⌝ }
 {
-    buffer[105] = flag(head.hxt48_ready);
-    buffer[106] = flag(head.hrc48_ready);
-    buffer[107] = flag(head.lpsys_hxt48_ready);
-    buffer[108] = head.boot_mode;
-    buffer[109] = head.wake_count;
-    buffer[110] = head.count;
+    buffer[layout::HXT48_READY_AT] = flag(head.hxt48_ready);
+    buffer[layout::HRC48_READY_AT] = flag(head.hrc48_ready);
+    buffer[layout::LPSYS_HXT48_READY_AT] = flag(head.lpsys_hxt48_ready);
+    buffer[layout::BOOT_MODE_AT] = head.boot_mode;
+    buffer[layout::WAKE_COUNT_AT] = head.wake_count;
+    buffer[layout::TASK_COUNT_AT] = head.count;
 }
 
 // Writes a head's record at the front of a buffer.
 pub fn encode(head: Head, buffer: &mut [u8])
-    requires { ⌜ (length (now buffer) ≡ bufferBytes) × (head .count ≤ 16) ⌝ }
+    requires { ⌜ (length (now buffer) ≡ bufferBytes) × (head .count ≤ mostTasks) ⌝ }
     ensures { λ _. ⌜ now (buffer .exit) ≡ written head (now (buffer .entry)) ⌝ }
 {
     let count = head.count;

@@ -6,22 +6,26 @@ use lib.Dec.{eqb, ltb}
 use lib.ListN.{length}
 use Rattle.record.specs.Refusals.{refuse, firstOf}
 use Rattle.record.specs.Items.{items}
+use Rattle.layout.specs.Layout.{mostTasks}
 use Rattle.task.specs.declared.Task.{Task}
 use Rattle.task.specs.Task.{allOk, distinct}
 use Rattle.task.specs.bytes.{taskIn}
 use Rattle.load.specs.Load.{loadOf}
 use Rattle.load.specs.declared.check.Checked.{Checked}
 
--- "a list of task records lent by the caller": nine bytes each
+-- "a list of task records lent by the caller": "nine each"
+abbrev pub listedSize : ℕ
+listedSize = 9
+
 unfoldable pub listed : List ℕ → List Task
-listed b = items taskIn 9 (length b / 9) b
+listed b = items taskIn listedSize (length b / listedSize) b
 
 -- "1 (not nine each), 41, 16, 40 in that order"
 unfoldable pub checkRefusal : List ℕ → ℕ
 checkRefusal b =
     firstOf
-    (refuse 1 (not (eqb (length b % 9) 0)) ∷
-    refuse 41 (ltb 16 (length b / 9)) ∷
+    (refuse 1 (not (eqb (length b % listedSize) 0)) ∷
+    refuse 41 (ltb mostTasks (length b / listedSize)) ∷
     refuse 16 (not (allOk (listed b))) ∷
     refuse 40 (not (distinct (listed b))) ∷ [])
 

@@ -2,6 +2,9 @@
 ghost use mathlib.Core.Path.{_≡_};
 ghost use Rattle.load.specs.check.{loadCheck, wordOf};
 
+// A task of the list has so many bytes, whatever it has in a head.
+const LISTED_SIZE: usize = 9;
+
 // 0 and the load, or the refusal and 0.
 pub struct Checked {
     pub refusal: u8,
@@ -17,20 +20,20 @@ fn refused(refusal: u8) -> Checked
 pub fn load_check(bytes: &[u8]) -> Checked
     ensures { λ r. ⌜ r ≡ loadCheck (now (bytes .entry)) ⌝ }
 {
-    if bytes.len() % 9 != 0 {
+    if bytes.len() % LISTED_SIZE != 0 {
         return refused(1);
     }
-    let count = bytes.len() / 9;
-    if 16 < count {
+    let count = bytes.len() / LISTED_SIZE;
+    if layout::MOST_TASKS < count {
         return refused(41);
     }
     // Added up before the tests, which the processor makes while it waits for the divisions.
-    let tasks = task::bytes::tasks_at(bytes, 0, count);
+    let tasks = task::bytes::tasks_at(bytes, 0, LISTED_SIZE, count);
     let load = crate::load(tasks, count);
-    if !task::list::all_ok(bytes, count) {
+    if !task::list::all_ok(bytes, LISTED_SIZE, count) {
         return refused(16);
     }
-    if !task::list::distinct(bytes, count) {
+    if !task::list::distinct(bytes, LISTED_SIZE, count) {
         return refused(40);
     }
     Checked { refusal: 0, load }

@@ -4,6 +4,7 @@ pub mod check;
 ghost use mathlib.Core.Path.{_≡_};
 ghost use Prim.Native.Nat.{_≤_};
 ghost use lib.ListN.{length, take};
+ghost use Rattle.layout.specs.Layout.{mostTasks};
 ghost use Rattle.load.specs.Load.{shareOf, loadOf};
 use task::Task;
 
@@ -21,7 +22,7 @@ pub fn share(cycles: u32, period: u32) -> u64
 
 // The sum of the shares of at most 16 tasks.
 pub fn total(tasks: &[Task]) -> u64
-    requires { ⌜ length (now tasks) ≤ 16 ⌝ }
+    requires { ⌜ length (now tasks) ≤ mostTasks ⌝ }
     ensures { λ r. ⌜ r ≡ loadOf (now (tasks .entry)) ⌝ }
 {
     let mut sum: u64 = 0;
@@ -35,8 +36,8 @@ pub fn total(tasks: &[Task]) -> u64
 }
 
 // The load of the first `count` of sixteen places.
-pub fn load(tasks: [Task; 16], count: usize) -> u64
-    requires { ⌜ count ≤ 16 ⌝ }
+pub fn load(tasks: [Task; layout::MOST_TASKS], count: usize) -> u64
+    requires { ⌜ count ≤ mostTasks ⌝ }
     ensures { λ r. ⌜ r ≡ loadOf (take count tasks) ⌝ }
 {
     total(&tasks[..count])

@@ -4,7 +4,8 @@ ghost use mathlib.Core.Path.{_≡_};
 ghost use Prim.Native.Nat.{_/_, _%_, _<_};
 ghost use Rattle.record.specs.Items.{joined, laid};
 ghost use Rattle.register.specs.Word.{wordBytes};
-ghost use Rattle.register.specs.bytes.{bufferBytes, registersIn};
+ghost use Rattle.layout.specs.Layout.{registerSize, bufferBytes};
+ghost use Rattle.register.specs.bytes.{registersIn};
 ghost use Rattle.journal.specs.Run.{applied};
 
 const VALUES: u32 = 16777216;
@@ -37,7 +38,7 @@ fn after(regs: [u32; 35], entry: u32) -> [u32; 35]
 // Puts an entry's store into a head's bytes.
 pub fn store(entry: u32, buffer: &mut [u8])
     requires { ⌜ length (now buffer) ≡ bufferBytes ⌝ }
-    ensures { λ _. ⌜ now (buffer .exit) ≡ laid 3 (joined wordBytes (drop 1 (applied (registersIn (now (buffer .entry))) entry))) (now (buffer .entry)) ⌝ }
+    ensures { λ _. ⌜ now (buffer .exit) ≡ laid registerSize (joined wordBytes (drop 1 (applied (registersIn (now (buffer .entry))) entry))) (now (buffer .entry)) ⌝ }
 {
     let regs = after(register::bytes::read(buffer), entry);
     register::bytes::write(regs, buffer);

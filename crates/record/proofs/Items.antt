@@ -4,11 +4,15 @@ use mathlib.Core.Path.{_≡_, refl, ap, sym, _∙_}
 use mathlib.Core.List.{List, [], _∷_, _++_, append-assoc, append-nil}
 use native.Mathlib.Omega.{arith}
 use native.Mathlib.Numerals.{add-one}
-use native.Mathlib.Nat.{mul-zero, mul-suc, add-comm}
+use native.Mathlib.Nat.{mul-zero, mul-suc, add-comm, mul-le-mul-left}
 use lib.ListN.{length, getD, take, drop, set, replicate, length-append, length-drop}
 use lib.Seq.{drop-drop, set-at, append-snoc, take-suc, take-at, drop-at, take-add, getD-drop}
 use Rattle.record.specs.Bytes.{Bytes}
 use Rattle.record.specs.Items.{items, joined}
+
+-- item `i` of `n` ends where the last one does, or before
+pub item-within : (size i n : ℕ) → i < n → size * i + size ≤ size * n
+item-within size i n h = rw (← mul-suc size i) (mul-le-mul-left {m = suc i} {n = n} size h)
 
 module _ {A : Type 0} where
   -- a store at the first place that a loop has yet to fill

@@ -5,6 +5,7 @@ use mathlib.Core.List.{List, [], _∷_}
 use lib.Dec.{ltb}
 use lib.ListN.{take, drop}
 use Rattle.record.specs.Bytes.{isWithin}
+use Rattle.layout.specs.Layout.{registerSize}
 use Rattle.register.specs.Word.{wordBytes}
 
 -- The largest value of the byte at each place of a record, up to the ready flags. Register n has the places 3 n to 3 n + 2, and number 0,
@@ -88,7 +89,7 @@ largest =
 
 -- the largest values of register `n`'s three bytes
 abbrev pub codesOf : ℕ → List ℕ
-codesOf n = take 3 (drop (3 * n) largest)
+codesOf n = take registerSize (drop (registerSize * n) largest)
 
 -- register `n` may hold `v`
 unfoldable pub fitsRegister : ℕ → ℕ → Bool

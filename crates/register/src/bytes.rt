@@ -6,7 +6,8 @@ ghost use Prim.Native.Nat.{_+_, _≤_, _<_};
 ghost use lib.ListN.{length, drop};
 ghost use Rattle.register.specs.Word.{wordIn, wordBytes};
 ghost use Rattle.record.specs.Items.{joined, laid};
-ghost use Rattle.register.specs.bytes.{bufferBytes, registersIn};
+ghost use Rattle.layout.specs.Layout.{registerSize, bufferBytes};
+ghost use Rattle.register.specs.bytes.{registersIn};
 
 fn wide(x: u8) -> u32
     ensures { λ r. ⌜ (r ≡ x) × (r < 256) ⌝ }
@@ -15,7 +16,7 @@ fn wide(x: u8) -> u32
 }
 
 fn word_at(buffer: &[u8], at: usize) -> u32
-    requires { ⌜ at + 3 ≤ length (now buffer) ⌝ }
+    requires { ⌜ at + registerSize ≤ length (now buffer) ⌝ }
     ensures { λ r. ⌜ r ≡ wordIn (drop at (now (buffer .entry))) ⌝ }
 {
     crate::word(wide(buffer[at]), wide(buffer[at + 1]), wide(buffer[at + 2]))
@@ -29,14 +30,14 @@ pub fn read(buffer: &[u8]) -> [u32; 35]
     let mut regs = [0u32; 35];
     let mut n = 1;
     while n < 35 {
-        regs[n] = word_at(buffer, 3 * n);
+        regs[n] = word_at(buffer, layout::REGISTER_SIZE * n);
         n += 1;
     }
     regs
 }
 
 fn put_word(buffer: &mut [u8], at: usize, word: u32)
-    requires { ⌜ at + 3 ≤ length (now buffer) ⌝ }
+    requires { ⌜ at + registerSize ≤ length (now buffer) ⌝ }
     ensures { λ _. ⌜ now (buffer .exit) ≡ laid at (wordBytes word) (now (buffer .entry)) ⌝ }
 {
     buffer[at] = crate::a(word) as u8;
@@ -47,11 +48,11 @@ fn put_word(buffer: &mut [u8], at: usize, word: u32)
 // Writes registers 1 to 34 at their places.
 pub fn write(regs: [u32; 35], buffer: &mut [u8])
     requires { ⌜ length (now buffer) ≡ bufferBytes ⌝ }
-    ensures { λ _. ⌜ now (buffer .exit) ≡ laid 3 (joined wordBytes (drop 1 regs)) (now (buffer .entry)) ⌝ }
+    ensures { λ _. ⌜ now (buffer .exit) ≡ laid registerSize (joined wordBytes (drop 1 regs)) (now (buffer .entry)) ⌝ }
 {
     let mut n = 1;
     while n < 35 {
-        put_word(buffer, 3 * n, regs[n]);
+        put_word(buffer, layout::REGISTER_SIZE * n, regs[n]);
         n += 1;
     }
 }

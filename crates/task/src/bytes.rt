@@ -2,30 +2,18 @@
 ghost use mathlib.Core.Path.{_≡_};
 ghost use Prim.Native.Nat.{_+_, _*_, _≤_};
 ghost use lib.ListN.{length, take, drop};
-ghost use Rattle.register.specs.bytes.{bufferBytes};
+ghost use Rattle.layout.specs.Layout.{mostTasks, firstTask, periodEnd, taskSize, bufferBytes};
 ghost use Rattle.record.specs.Items.{items, joined, laid};
-ghost use Rattle.task.specs.bytes.{taskIn, taskBytes, firstTask, countIn, placed, placesIn};
+ghost use Rattle.task.specs.bytes.{taskIn, taskBytes, countIn, placed, placesIn};
 use crate::Task;
-
-pub const FIRST_TASK: usize = 111;
 
 // The task at a place of a record.
 pub fn task_at(buffer: &[u8], at: usize) -> Task
-    requires { ⌜ at + 9 ≤ length (now buffer) ⌝ }
+    requires { ⌜ at + periodEnd ≤ length (now buffer) ⌝ }
     ensures { λ r. ⌜ r ≡ taskIn (drop at (now (buffer .entry))) ⌝ }
 {
-    let cycles = record::four::four_bytes(
-        buffer[at + 1],
-        buffer[at + 2],
-        buffer[at + 3],
-        buffer[at + 4],
-    );
-    let period = record::four::four_bytes(
-        buffer[at + 5],
-        buffer[at + 6],
-        buffer[at + 7],
-        buffer[at + 8],
-    );
+    let cycles = record::four::four_at(buffer, at + layout::CYCLES_AT);
+    let period = record::four::four_at(buffer, at + layout::PERIOD_AT);
     Task {
         id: buffer[at],
         cycles,
@@ -33,51 +21,52 @@ pub fn task_at(buffer: &[u8], at: usize) -> Task
     }
 }
 
-// Sixteen places, the first `count` with the tasks from a place of the bytes on, the others empty.
-pub fn tasks_at(bytes: &[u8], at: usize, count: usize) -> [Task; 16]
-    requires { ⌜ (at + 9 * count ≤ length (now bytes)) × (count ≤ 16) ⌝ }
-    ensures { λ r. ⌜ r ≡ placed (items taskIn 9 count (drop at (now (bytes .entry)))) count ⌝ }
+// Sixteen places, the first `count` with the tasks from a place of the bytes on, each `size` bytes after the one before it, the others empty.
+pub fn tasks_at(bytes: &[u8], at: usize, size: usize, count: usize) -> [Task; layout::MOST_TASKS]
+    requires { ⌜ (periodEnd ≤ size) × ((at + size * count ≤ length (now bytes)) × (count ≤ mostTasks)) ⌝ }
+    ensures { λ r. ⌜ r ≡ placed (items taskIn size count (drop at (now (bytes .entry)))) count ⌝ }
 {
     let none = Task {
         id: 0,
         cycles: 0,
         period: 0,
     };
-    let mut tasks = [none; 16];
+    let mut tasks = [none; layout::MOST_TASKS];
     let mut i = 0;
     while i < count {
-        tasks[i] = task_at(bytes, at + 9 * i);
+        tasks[i] = task_at(bytes, at + size * i);
         i += 1;
     }
     tasks
 }
 
 // The sixteen places of a record, those past the booked tasks empty.
-pub fn read(buffer: &[u8]) -> [Task; 16]
-    requires { ⌜ (length (now buffer) ≡ bufferBytes) × (countIn (now buffer) ≤ 16) ⌝ }
+pub fn read(buffer: &[u8]) -> [Task; layout::MOST_TASKS]
+    requires { ⌜ (length (now buffer) ≡ bufferBytes) × (countIn (now buffer) ≤ mostTasks) ⌝ }
     ensures { λ r. ⌜ r ≡ placesIn (now (buffer .entry)) ⌝ }
 {
-    tasks_at(buffer, FIRST_TASK, buffer[110] as usize)
+    let count = buffer[layout::TASK_COUNT_AT] as usize;
+    tasks_at(buffer, layout::FIRST_TASK, layout::TASK_SIZE, count)
 }
 
 fn put_task(buffer: &mut [u8], at: usize, task: Task)
-    requires { ⌜ at + 9 ≤ length (now buffer) ⌝ }
+    requires { ⌜ at + taskSize ≤ length (now buffer) ⌝ }
     ensures { λ _. ⌜ now (buffer .exit) ≡ laid at (taskBytes task) (now (buffer .entry)) ⌝ }
 {
     buffer[at] = task.id;
-    record::four::put_four(buffer, at + 1, task.cycles);
-    record::four::put_four(buffer, at + 5, task.period);
+    record::four::put_four(buffer, at + layout::CYCLES_AT, task.cycles);
+    record::four::put_four(buffer, at + layout::PERIOD_AT, task.period);
 }
 
 // Writes the booked tasks at their places.
-pub fn write(tasks: [Task; 16], count: u8, buffer: &mut [u8])
-    requires { ⌜ (length (now buffer) ≡ bufferBytes) × (count ≤ 16) ⌝ }
+pub fn write(tasks: [Task; layout::MOST_TASKS], count: u8, buffer: &mut [u8])
+    requires { ⌜ (length (now buffer) ≡ bufferBytes) × (count ≤ mostTasks) ⌝ }
     ensures { λ _. ⌜ now (buffer .exit) ≡ laid firstTask (joined taskBytes (take count tasks)) (now (buffer .entry)) ⌝ }
 {
     let end = count as usize;
     let mut i = 0;
     while i < end {
-        put_task(buffer, FIRST_TASK + 9 * i, tasks[i]);
+        put_task(buffer, layout::FIRST_TASK + layout::TASK_SIZE * i, tasks[i]);
         i += 1;
     }
 }

@@ -2,6 +2,7 @@
 ghost use mathlib.Core.Path.{_≡_};
 ghost use Prim.Native.Nat.{_≤_};
 ghost use lib.ListN.{take};
+ghost use Rattle.layout.specs.Layout.{mostTasks};
 ghost use Rattle.task.specs.Task.{taskOk, hasId};
 use crate::Task;
 
@@ -22,8 +23,8 @@ pub fn ok(task: Task) -> bool
 }
 
 // Whether one of the first `count` tasks has the id.
-pub fn has_id(tasks: [Task; 16], count: u8, id: u8) -> bool
-    requires { ⌜ count ≤ 16 ⌝ }
+pub fn has_id(tasks: [Task; layout::MOST_TASKS], count: u8, id: u8) -> bool
+    requires { ⌜ count ≤ mostTasks ⌝ }
     ensures { λ r. ⌜ r ≡ hasId id (take count tasks) ⌝ }
 {
     let end = count as usize;

@@ -5,19 +5,19 @@ use mathlib.Core.Bool.{Bool, true, false}
 use mathlib.Core.List.{List, [], _∷_, _++_, append-assoc}
 use native.Mathlib.Omega.{arith}
 use native.Mathlib.Numerals.{one-add}
-use lib.Dec.{eqb}
 use lib.ListN.{length, getD, take, drop, length-append, length-drop, take-append-drop}
 use lib.Seq.{take-append-add, getD-drop, length-take-le, getD-take, drop-at, drop-drop}
+use Rattle.layout.specs.Layout.{registerSize, registersSize, hxt48ReadyAt, codedSize, stateSize, firstTask, taskSize, versionAt, lengthOf, bufferBytes}
 use Rattle.record.specs.Bytes.{twoBytes, isWithin}
 use Rattle.head.specs.declared.Head.{Head}
 use Rattle.register.specs.Word.{wordIn, wordBytes}
 use Rattle.record.specs.Items.{items, joined}
 use Rattle.task.specs.Task.{noTask}
-use Rattle.task.specs.bytes.{taskIn, taskBytes, firstTask, countIn, tasksIn, placesIn}
+use Rattle.task.specs.bytes.{taskIn, taskBytes, countIn, tasksIn, placesIn}
 use Rattle.register.specs.Codes.{largest}
 use Rattle.register.specs.Word.{bit}
 use Rattle.head.specs.Head.{booked}
-use Rattle.head.specs.from_bytes.Record.{bufferBytes, lengthOf, headRefusal, headOf, frontOf, stateOf, recordOf, written}
+use Rattle.head.specs.from_bytes.Record.{headRefusal, headOf, frontOf, stateOf, recordOf, written}
 use Rattle.register.specs.bytes.{registersIn}
 use Rattle.head.specs.Encodable.{Encodable}
 use Rattle.record.proofs.Items.{items-of}
@@ -25,12 +25,9 @@ use Rattle.record.proofs.Parts.{within-joined}
 use Rattle.register.proofs.Words.{word-of-bytes, word-length}
 use Rattle.task.proofs.bytes.Laws.{task-of-bytes, task-length}
 use Rattle.register.proofs.Fits.{fits-word, fits-codes, unused-zero}
+use Rattle.head.proofs.Fields.{state-length, count-again, head-again}
 use Rattle.head.proofs.from_bytes.Passed.{Passed, unrefused}
 use Rattle.head.proofs.from_bytes.Parts.{registers-length, record-length}
-
-bit-flag : (t : Bool) → eqb (bit t) 1 ≡ t
-bit-flag true = refl
-bit-flag false = refl
 
 bits-within : (s t u : Bool) → isWithin (bit s ∷ bit t ∷ bit u ∷ []) (1 ∷ 1 ∷ 1 ∷ []) ≡ true
 unfolding isWithin
@@ -67,30 +64,27 @@ module _ (h : Head) (e : Encodable h) (b : List ℕ) (l : length b ≡ bufferByt
   unfolding written recordOf words past rest
   split = simp append-assoc
 
-  words-length : length (words h) ≡ 102
+  words-length : length (words h) ≡ registersSize
   unfolding words
   words-length = registers-length h (e .words) (e .room)
 
   numbered : length (drop 1 (h .regs)) ≡ 34
   numbered = length-drop 1 (h .regs) ∙ rw (e .words)
 
-  from-registers : drop 3 (written h b) ≡ words h ++ rest h b
+  from-registers : drop registerSize (written h b) ≡ words h ++ rest h b
   unfolding frontOf
-  from-registers = ap (drop 3) split
+  from-registers = ap (drop registerSize) split
 
-  from-state : drop 105 (written h b) ≡ rest h b
-  from-state = sym (drop-drop 102 3 (written h b)) ∙ (ap (drop 102) from-registers ∙ drop-at (words h) (rest h b) 102 words-length)
+  from-state : drop hxt48ReadyAt (written h b) ≡ rest h b
+  from-state = sym (drop-drop registersSize registerSize (written h b)) ∙ (ap (drop registersSize) from-registers ∙ drop-at (words h) (rest h b) registersSize words-length)
 
   from-tasks : drop firstTask (written h b) ≡ joined taskBytes (booked h) ++ past h b
-  unfolding rest stateOf
-  from-tasks = sym (drop-drop 6 105 (written h b)) ∙ ap (drop 6) from-state
+  unfolding rest
+  from-tasks = sym (drop-drop stateSize hxt48ReadyAt (written h b)) ∙ (ap (drop stateSize) from-state ∙ drop-at (stateOf h) (joined taskBytes (booked h) ++ past h b) stateSize (state-length h))
 
-  state-at : (j : ℕ) → getD (written h b) (105 + j) 0 ≡ getD (rest h b) j 0
-  state-at j = sym (getD-drop 105 (written h b) j 0) ∙ ap (λ (l : List ℕ). getD l j 0) from-state
-
-  count-again : countIn (written h b) ≡ h .count
-  unfolding rest stateOf
-  count-again = state-at 5
+  count-written : countIn (written h b) ≡ h .count
+  unfolding rest
+  count-written = count-again h (written h b) (joined taskBytes (booked h) ++ past h b) from-state
 
   booked-count : length (booked h) ≡ h .count
   booked-count = length-take-le (h .count) (h .tasks) (omega (arith, e .places, e .room))
@@ -103,8 +97,8 @@ module _ (h : Head) (e : Encodable h) (b : List ℕ) (l : length b ≡ bufferByt
       λ k u r.
       let u′ : k < h .count = omega (arith, booked-count) in
       task-of-bytes (getD (booked h) k noTask) r (rw (getD-take (h .count) (h .tasks) k noTask u′) (e .inBytes k u′)) in
-      rw (count-again, from-tasks)
-      (ap (λ (n : ℕ). items taskIn 9 n (joined taskBytes (booked h) ++ past h b)) (sym booked-count) ∙ items-of taskIn taskBytes 9 task-length noTask (booked h) (past h b) back)
+      rw (count-written, from-tasks)
+      (ap (λ (n : ℕ). items taskIn taskSize n (joined taskBytes (booked h) ++ past h b)) (sym booked-count) ∙ items-of taskIn taskBytes taskSize task-length noTask (booked h) (past h b) back)
 
   register-again : (k : ℕ) → getD (drop 1 (h .regs)) k 0 ≡ getD (h .regs) (suc k) 0
   register-again k = getD-drop 1 (h .regs) k 0 ∙ rw one-add
@@ -115,20 +109,20 @@ module _ (h : Head) (e : Encodable h) (b : List ℕ) (l : length b ≡ bufferByt
       let back : (k : ℕ) → k < length (drop 1 (h .regs)) → (r : List ℕ) → wordIn (wordBytes (getD (drop 1 (h .regs)) k 0) ++ r) ≡ getD (drop 1 (h .regs)) k 0 =
       λ k u r. word-of-bytes (getD (drop 1 (h .regs)) k 0) r
       (rw (register-again k) (fits-word (suc k) (getD (h .regs) (suc k) 0) (e .codes (suc k) (omega (arith, numbered))))) in
-      let later : items wordIn 3 34 (drop 3 (written h b)) ≡ drop 1 (h .regs) =
-      rw (from-registers, ← numbered) (items-of wordIn wordBytes 3 word-length 0 (drop 1 (h .regs)) (rest h b) back) in
+      let later : items wordIn registerSize 34 (drop registerSize (written h b)) ≡ drop 1 (h .regs) =
+      rw (from-registers, ← numbered) (items-of wordIn wordBytes registerSize word-length 0 (drop 1 (h .regs)) (rest h b) back) in
       rw later (unused-first (h .regs) (omega (arith, e .words)) (unused-zero (getD (h .regs) 0 0) (e .codes 0 (omega arith))))
 
   places-again : placesIn (written h b) ≡ h .tasks
   unfolding placesIn
-  places-again = rw (tasks-again, count-again, ← e .rest) (take-append-drop (h .count) (h .tasks))
+  places-again = rw (tasks-again, count-written, ← e .rest) (take-append-drop (h .count) (h .tasks))
 
-  register-within : (k : ℕ) → k < length (drop 1 (h .regs)) → isWithin (wordBytes (getD (drop 1 (h .regs)) k 0)) (take 3 (drop (3 * k) (drop 3 largest))) ≡ true
+  register-within : (k : ℕ) → k < length (drop 1 (h .regs)) → isWithin (wordBytes (getD (drop 1 (h .regs)) k 0)) (take registerSize (drop (registerSize * k) (drop registerSize largest))) ≡ true
   register-within k u =
-      let next : 3 + 3 * k ≡ 3 * suc k = omega arith in
-      rw (register-again k, drop-drop (3 * k) 3 largest, next) (fits-codes (suc k) (getD (h .regs) (suc k) 0) (e .codes (suc k) (omega (arith, numbered))))
+      let next : registerSize + registerSize * k ≡ registerSize * suc k = omega arith in
+      rw (register-again k, drop-drop (registerSize * k) registerSize largest, next) (fits-codes (suc k) (getD (h .regs) (suc k) 0) (e .codes (suc k) (omega (arith, numbered))))
 
-  flags-within : isWithin (flags h) (drop (3 * length (drop 1 (h .regs))) (drop 3 largest)) ≡ true
+  flags-within : isWithin (flags h) (drop (registerSize * length (drop 1 (h .regs))) (drop registerSize largest)) ≡ true
   unfolding flags largest
   flags-within = rw numbered (bits-within (h .«hxt48_ready») (h .«hrc48_ready») (h .«lpsys_hxt48_ready»))
 
@@ -136,12 +130,12 @@ module _ (h : Head) (e : Encodable h) (b : List ℕ) (l : length b ≡ bufferByt
   unfolding rest stateOf flags
   flags-first = refl
 
-  codes-again : isWithin (take 105 (drop 3 (written h b))) (drop 3 largest) ≡ true
+  codes-again : isWithin (take codedSize (drop registerSize (written h b))) (drop registerSize largest) ≡ true
   unfolding words
   codes-again =
-      let all : take 105 (drop 3 (written h b)) ≡ words h ++ flags h =
+      let all : take codedSize (drop registerSize (written h b)) ≡ words h ++ flags h =
       rw from-registers (rw (words-length, flags-first) at (take-append-add (words h) (rest h b) 3)) in
-      rw all (within-joined wordBytes 3 word-length 0 (drop 1 (h .regs)) (flags h) (drop 3 largest) register-within flags-within)
+      rw all (within-joined wordBytes registerSize word-length 0 (drop 1 (h .regs)) (flags h) (drop registerSize largest) register-within flags-within)
 
   written-length : length (written h b) ≡ bufferBytes
   unfolding written
@@ -151,33 +145,20 @@ module _ (h : Head) (e : Encodable h) (b : List ℕ) (l : length b ≡ bufferByt
   unfolding frontOf
   field-again = rw split (omega (arith, e .room))
 
-  version-again : getD (written h b) 2 0 ≡ 1
+  version-again : getD (written h b) versionAt 0 ≡ 1
   unfolding frontOf
   version-again = rw split
 
-  head-again : headOf (written h b) ≡ h
-  unfolding headOf rest stateOf
-  head-again =
-      rw (
-        registers-again,
-        state-at 0,
-        state-at 1,
-        state-at 2,
-        state-at 3,
-        state-at 4,
-        places-again,
-        count-again,
-        bit-flag (h .«hxt48_ready»),
-        bit-flag (h .«hrc48_ready»),
-        bit-flag (h .«lpsys_hxt48_ready»),
-      )
+  head-written : headOf (written h b) ≡ h
+  unfolding rest
+  head-written = head-again h (written h b) (joined taskBytes (booked h) ++ past h b) from-state registers-again places-again
 
   again : Passed (written h b)
   again =
       record {
         length = written-length;
-        count = rw count-again (e .room);
-        field = rw count-again field-again;
+        count = rw count-written (e .room);
+        field = rw count-written field-again;
         version = version-again;
         codes = codes-again;
         each = rw tasks-again (e .each);
@@ -186,4 +167,4 @@ module _ (h : Head) (e : Encodable h) (b : List ℕ) (l : length b ≡ bufferByt
 
   -- the record is not refused, and its head is the one written
   pub decode-encode : (headRefusal (written h b) ≡ 0) × (headOf (written h b) ≡ h)
-  decode-encode = (unrefused (written h b) again, head-again)
+  decode-encode = (unrefused (written h b) again, head-written)

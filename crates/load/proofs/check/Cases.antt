@@ -9,11 +9,12 @@ use borrow.Author.Tests.{ne-eqb}
 use Rattle.record.specs.Refusals.{firstOf}
 use Rattle.record.specs.Items.{items}
 use Rattle.record.proofs.Items.{items-length}
+use Rattle.layout.specs.Layout.{mostTasks}
 use Rattle.task.specs.Task.{allOk, distinct}
 use Rattle.task.specs.bytes.{taskIn, placed}
 use Rattle.task.proofs.bytes.Places.{placed-first}
 use Rattle.load.specs.Load.{loadOf}
-use Rattle.load.specs.check.{listed, checkRefusal, loadCheck}
+use Rattle.load.specs.check.{listedSize, listed, checkRefusal, loadCheck}
 
 module _ (b : List ℕ) where
   -- a refusal gives no load, and no refusal the load of the list
@@ -26,16 +27,16 @@ module _ (b : List ℕ) where
   accepts e = rw e
 
   -- the tests, as far as they are passed
-  pub not-nine-each : eqb (length b % 9) 0 ≡ false → checkRefusal b ≡ 1
+  pub not-nine-each : eqb (length b % listedSize) 0 ≡ false → checkRefusal b ≡ 1
   unfolding checkRefusal firstOf
   not-nine-each p = rw p
 
-  module _ (p : eqb (length b % 9) 0 ≡ true) where
-    pub too-many : ltb 16 (length b / 9) ≡ true → checkRefusal b ≡ 41
+  module _ (p : eqb (length b % listedSize) 0 ≡ true) where
+    pub too-many : ltb mostTasks (length b / listedSize) ≡ true → checkRefusal b ≡ 41
     unfolding checkRefusal firstOf
     too-many q = rw (p, q)
 
-    module _ (q : ltb 16 (length b / 9) ≡ false) where
+    module _ (q : ltb mostTasks (length b / listedSize) ≡ false) where
       pub one-wrong : allOk (listed b) ≡ false → checkRefusal b ≡ 16
       unfolding checkRefusal firstOf
       one-wrong r = rw (p, q, r)
@@ -49,6 +50,6 @@ module _ (b : List ℕ) where
       none r s = rw (p, q, r, s)
 
   -- the first places of those read are the list
-  pub first-listed : take (length b / 9) (placed (items taskIn 9 (length b / 9) b) (length b / 9)) ≡ listed b
+  pub first-listed : take (length b / listedSize) (placed (items taskIn listedSize (length b / listedSize) b) (length b / listedSize)) ≡ listed b
   unfolding listed
-  first-listed = placed-first (items taskIn 9 (length b / 9) b) (length b / 9) (items-length taskIn 9 (length b / 9) b)
+  first-listed = placed-first (items taskIn listedSize (length b / listedSize) b) (length b / listedSize) (items-length taskIn listedSize (length b / listedSize) b)

@@ -8,21 +8,22 @@ use borrow.Author.Tests.{ltb-false, ne-eqb}
 use Rattle.record.specs.Bytes.{Bytes}
 use Rattle.record.proofs.Items.{items-length, items-at}
 use Rattle.record.proofs.Refusals.{none-at, not-refused}
+use Rattle.layout.specs.Layout.{mostTasks}
 use Rattle.task.specs.Task.{noTask, InBytes}
 use Rattle.task.specs.bytes.{taskIn}
 use Rattle.task.proofs.bytes.Laws.{bytes-drop, task-in-bytes}
 use Rattle.load.proofs.Sums.{load-small}
-use Rattle.load.specs.check.{listed, checkRefusal, loadCheck, wordOf}
+use Rattle.load.specs.check.{listedSize, listed, checkRefusal, loadCheck, wordOf}
 use Rattle.load.proofs.check.Cases.{refuses, accepts}
 
-listed-few : (b : List ℕ) → checkRefusal b ≡ 0 → length (listed b) ≤ 16
+listed-few : (b : List ℕ) → checkRefusal b ≡ 0 → length (listed b) ≤ mostTasks
 unfolding checkRefusal listed
-listed-few b e = rw items-length (ltb-false 16 (length b / 9) (not-refused 40 _ (none-at _ e 1)))
+listed-few b e = rw items-length (ltb-false mostTasks (length b / listedSize) (not-refused 40 _ (none-at _ e 1)))
 
 listed-in-bytes : (b : List ℕ) → Bytes b → (k : ℕ) → k < length (listed b) → InBytes (getD (listed b) k noTask)
 unfolding listed
 listed-in-bytes b bytes k h =
-    rw (items-at taskIn 9 (length b / 9) b k noTask (rw items-length at h)) (task-in-bytes (drop (9 * k) b) (bytes-drop b (9 * k) bytes))
+    rw (items-at taskIn listedSize (length b / listedSize) b k noTask (rw items-length at h)) (task-in-bytes (drop (listedSize * k) b) (bytes-drop b (listedSize * k) bytes))
 
 -- clear on a load
 pub load-clear : (b : List ℕ) → Bytes b → checkRefusal b ≡ 0 → wordOf (loadCheck b) < 2 ^ 63

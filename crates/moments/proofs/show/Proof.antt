@@ -5,12 +5,13 @@ use mathlib.Core.Path.{_≡_}
 use native.Mathlib.Omega.{arith}
 use lib.ListN.{length}
 use borrow.Author.Needs.{needs}
+use Rattle.head.specs.from_bytes.Record.{bufferBytes}
 use Rattle.call.proofs.Ending.{call-encodable, call-bytes}
 use Rattle.moments.proofs.show.Statement.{statement}
 use Rattle.moments.proofs.show.Tie as tie
 
 abbrev Inv-loop : tie.InvT-loop
-Inv-loop buffer₀ entries i₀ buffer i = (i ≤ length entries) × ((length buffer ≡ length buffer₀) × (length buffer₀ ≡ 255))
+Inv-loop buffer₀ entries i₀ buffer i = (i ≤ length entries) × ((length buffer ≡ length buffer₀) × (length buffer₀ ≡ bufferBytes))
 
 abbrev μ-loop : tie.MeasureT-loop
 μ-loop buffer₀ entries i₀ buffer i = length entries - i

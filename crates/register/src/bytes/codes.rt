@@ -3,7 +3,7 @@ ghost use mathlib.Core.Path.{_≡_};
 ghost use lib.ListN.{length, take, drop};
 ghost use Rattle.record.specs.Bytes.{isWithin};
 ghost use Rattle.register.specs.Codes.{largest};
-ghost use Rattle.register.specs.bytes.{bufferBytes};
+ghost use Rattle.layout.specs.Layout.{registerSize, codedSize, bufferBytes};
 
 // The largest values of the bytes that have codes, and of those that may hold anything.
 const CORE: u8 = 3;
@@ -26,8 +26,8 @@ const TRIM: u8 = 3;
 
 const ANY: u8 = 255;
 
-// The largest value of each byte from place 3 of a record on: bytes a, b, c of each register, and the ready flags.
-const LARGEST: [u8; 105] = [
+// The largest value of each byte of a record from register 1 on: bytes a, b, c of each register, and the ready flags.
+const LARGEST: [u8; layout::CODED_SIZE] = [
     // 1 SYSCLK
     0,
     0,
@@ -173,8 +173,11 @@ const LARGEST: [u8; 105] = [
 // Whether each register and ready flag is within its codes.
 pub fn within(buffer: &[u8]) -> bool
     requires { ⌜ length (now buffer) ≡ bufferBytes ⌝ }
-    ensures { λ r. ⌜ r ≡ isWithin (take 105 (drop 3 (now (buffer .entry)))) (drop 3 largest) ⌝ }
+    ensures { λ r. ⌜ r ≡ isWithin (take codedSize (drop registerSize (now (buffer .entry)))) (drop registerSize largest) ⌝ }
 {
     let largest = LARGEST;
-    record::within(&buffer[3..108], &largest)
+    record::within(
+        &buffer[layout::REGISTER_SIZE..layout::BOOT_MODE_AT],
+        &largest,
+    )
 }

@@ -5,18 +5,19 @@ use mathlib.Core.List.{List, [], _∷_, _++_}
 use native.Mathlib.Omega.{arith}
 use native.Mathlib.Nat.{add-zero}
 use lib.ListN.{length, getD, take, drop, set, length-drop}
-use lib.Seq.{take-add, getD-drop}
+use lib.Seq.{take-add, getD-drop, drop-drop}
 use Rattle.record.specs.Bytes.{Bytes}
 use Rattle.record.specs.Items.{laid}
 use Rattle.record.proofs.Laid.{laid-sets, laid-next}
+use Rattle.layout.specs.Layout.{cyclesAt, periodAt, taskSize}
 use Rattle.task.specs.declared.Task.{Task}
 use Rattle.task.specs.Task.{InBytes}
-use Rattle.record.specs.four.{fourOf, fourBytes, fourIn}
+use Rattle.record.specs.four.{fourBytes, fourIn}
 use Rattle.record.proofs.four.Laws.{four-of-bytes, bytes-of-four, four-same, four-in-32}
 use Rattle.task.specs.bytes.{taskIn, taskBytes}
 
--- nine bytes
-pub task-length : (t : Task) → length (taskBytes t) ≡ 9
+-- as many bytes as a task has in a record
+pub task-length : (t : Task) → length (taskBytes t) ≡ taskSize
 unfolding taskBytes fourBytes
 task-length t = refl
 
@@ -25,7 +26,7 @@ unfolding taskIn taskBytes fourBytes
 task-of-bytes t rest h =
     rw (four-of-bytes (t .cycles) (fourBytes (t .period) ++ rest) (h .cycles), four-of-bytes (t .period) rest (h .period))
 
-pub bytes-of-task : (b : List ℕ) → 9 ≤ length b → Bytes b → taskBytes (taskIn b) ≡ take 9 b
+pub bytes-of-task : (b : List ℕ) → taskSize ≤ length b → Bytes b → taskBytes (taskIn b) ≡ take taskSize b
 unfolding taskIn taskBytes
 bytes-of-task [] h bytes = absurd (omega arith)
 bytes-of-task (x ∷ b) h bytes =
@@ -36,27 +37,21 @@ bytes-of-task (x ∷ b) h bytes =
     (ap (λ (l : List ℕ). x ∷ l) (sym (take-add 4 4 b)))
 
 -- a task is read from its own bytes only
-pub task-same : (b d : List ℕ) → ((i : ℕ) → i < 9 → getD b i 0 ≡ getD d i 0) → taskIn b ≡ taskIn d
+pub task-same : (b d : List ℕ) → ((i : ℕ) → i < taskSize → getD b i 0 ≡ getD d i 0) → taskIn b ≡ taskIn d
 unfolding taskIn
-task-same b d agree = rw (agree 0 (omega arith), four 1 (omega arith), four 5 (omega arith))
+task-same b d agree = rw (agree 0 (omega arith), four cyclesAt (omega arith), four periodAt (omega arith))
   where
-    four : (k : ℕ) → k + 4 ≤ 9 → fourIn (drop k b) ≡ fourIn (drop k d)
+    four : (k : ℕ) → k + 4 ≤ taskSize → fourIn (drop k b) ≡ fourIn (drop k d)
     four k h = four-same (drop k b) (drop k d) (λ i l. getD-drop k b i 0 ∙ (agree (k + i) (omega arith) ∙ sym (getD-drop k d i 0)))
 
--- the bytes of a task at a place
-pub task-at : (b : List ℕ) (at : ℕ) →
-    record {
-      id = getD b at 0;
-      cycles = fourOf (getD b (at + 1) 0) (getD b (at + 2) 0) (getD b (at + 3) 0) (getD b (at + 4) 0);
-      period = fourOf (getD b (at + 5) 0) (getD b (at + 6) 0) (getD b (at + 7) 0) (getD b (at + 8) 0);
-    }
-    ≡ taskIn (drop at b)
-unfolding taskIn fourIn
-task-at b at = simp (getD-drop, add-zero)
+-- a task at a place of bytes
+pub task-at : (b : List ℕ) (at : ℕ) → record { id = getD b at 0; cycles = fourIn (drop (at + cyclesAt) b); period = fourIn (drop (at + periodAt) b) } ≡ taskIn (drop at b)
+unfolding taskIn
+task-at b at = simp (getD-drop, drop-drop, add-zero)
 
 -- a task's bytes, its id, cycles and period one after the other
-pub task-laid : (at : ℕ) (t : Task) (b : List ℕ) → at + 9 ≤ length b →
-    laid (at + 5) (fourBytes (t .period)) (laid (at + 1) (fourBytes (t .cycles)) (set b at (t .id))) ≡ laid at (taskBytes t) b
+pub task-laid : (at : ℕ) (t : Task) (b : List ℕ) → at + taskSize ≤ length b →
+    laid (at + periodAt) (fourBytes (t .period)) (laid (at + cyclesAt) (fourBytes (t .cycles)) (set b at (t .id))) ≡ laid at (taskBytes t) b
 unfolding taskBytes fourBytes
 task-laid at t b h =
     let id : List ℕ = t .id ∷ [] in
@@ -75,6 +70,6 @@ unfolding taskIn
 task-in-bytes b bytes =
     record {
       id = bytes 0;
-      cycles = four-in-32 (drop 1 b) (bytes-drop b 1 bytes);
-      period = four-in-32 (drop 5 b) (bytes-drop b 5 bytes);
+      cycles = four-in-32 (drop cyclesAt b) (bytes-drop b cyclesAt bytes);
+      period = four-in-32 (drop periodAt b) (bytes-drop b periodAt bytes);
     }

@@ -14,43 +14,43 @@ use Rattle.task.specs.declared.Task.{Task}
 use Rattle.task.specs.Task.{noTask, taskOk, allOk, hasId, distinct}
 use Rattle.task.specs.bytes.{taskIn}
 
--- the `n` tasks in bytes
-abbrev pub tasks : List ℕ → ℕ → List Task
-tasks b n = items taskIn 9 n b
+-- the `n` tasks in bytes, `size` bytes each
+abbrev pub tasks : ℕ → List ℕ → ℕ → List Task
+tasks size b n = items taskIn size n b
 
 -- a task's first byte is its id
 id-at : (b : List ℕ) (at : ℕ) → taskIn (drop at b) .id ≡ getD b at 0
 unfolding taskIn
 id-at b at = simp (getD-drop, add-zero)
 
-module _ (b : List ℕ) (n i : ℕ) (l : i < n) where
-  rest-step : drop i (tasks b n) ≡ taskIn (drop (9 * i) b) ∷ drop (i + 1) (tasks b n)
-  rest-step = rw add-one (drop-cons (tasks b n) i noTask (rw items-length l) ∙ rw (items-at taskIn 9 n b i noTask l))
+module _ (size : ℕ) (b : List ℕ) (n i : ℕ) (l : i < n) where
+  rest-step : drop i (tasks size b n) ≡ taskIn (drop (size * i) b) ∷ drop (i + 1) (tasks size b n)
+  rest-step = rw add-one (drop-cons (tasks size b n) i noTask (rw items-length l) ∙ rw (items-at taskIn size n b i noTask l))
 
-  pub all-step : allOk (drop i (tasks b n)) ≡ (taskOk (taskIn (drop (9 * i) b)) && allOk (drop (i + 1) (tasks b n)))
+  pub all-step : allOk (drop i (tasks size b n)) ≡ (taskOk (taskIn (drop (size * i) b)) && allOk (drop (i + 1) (tasks size b n)))
   unfolding allOk
   all-step = ap allOk rest-step
 
-  pub has-step : (id : ℕ) → hasId id (drop i (tasks b n)) ≡ (eqb (getD b (9 * i) 0) id || hasId id (drop (i + 1) (tasks b n)))
+  pub has-step : (id : ℕ) → hasId id (drop i (tasks size b n)) ≡ (eqb (getD b (size * i) 0) id || hasId id (drop (i + 1) (tasks size b n)))
   unfolding hasId
   has-step id = ap (hasId id) rest-step ∙ rw id-at
 
-  pub distinct-step : distinct (drop i (tasks b n)) ≡ (not (hasId (getD b (9 * i) 0) (drop (i + 1) (tasks b n))) && distinct (drop (i + 1) (tasks b n)))
+  pub distinct-step : distinct (drop i (tasks size b n)) ≡ (not (hasId (getD b (size * i) 0) (drop (i + 1) (tasks size b n))) && distinct (drop (i + 1) (tasks size b n)))
   unfolding distinct
   distinct-step = ap distinct rest-step ∙ rw id-at
 
-module _ (b : List ℕ) (n i : ℕ) (l : n ≤ i) where
-  rest-none : drop i (tasks b n) ≡ []
-  rest-none = drop-of-length-le (tasks b n) {i = i} (rw items-length l)
+module _ (size : ℕ) (b : List ℕ) (n i : ℕ) (l : n ≤ i) where
+  rest-none : drop i (tasks size b n) ≡ []
+  rest-none = drop-of-length-le (tasks size b n) {i = i} (rw items-length l)
 
-  pub all-none : allOk (drop i (tasks b n)) ≡ true
+  pub all-none : allOk (drop i (tasks size b n)) ≡ true
   unfolding allOk
   all-none = ap allOk rest-none
 
-  pub has-none : (id : ℕ) → hasId id (drop i (tasks b n)) ≡ false
+  pub has-none : (id : ℕ) → hasId id (drop i (tasks size b n)) ≡ false
   unfolding hasId
   has-none id = ap (hasId id) rest-none
 
-  pub distinct-none : distinct (drop i (tasks b n)) ≡ true
+  pub distinct-none : distinct (drop i (tasks size b n)) ≡ true
   unfolding distinct
   distinct-none = ap distinct rest-none

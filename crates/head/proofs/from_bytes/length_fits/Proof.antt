@@ -1,7 +1,7 @@
--- `head::from_bytes::length_fits` meets its contract: each test that led to a return decides its part. Assumes nothing.
-use borrow.Author.Tests.{eq-eqb, ne-eqb, le-leb, lt-leb}
+-- `head::from_bytes::length_fits` meets its contract: each test that led to a return decides its part of `lengthFits`. Assumes nothing.
 use native.Mathlib.Omega.{arith}
-use Rattle.task.specs.bytes.{countIn}
+use borrow.Author.Tests.{eq-eqb, ne-eqb, lt-leb, le-leb}
+use Rattle.layout.specs.Layout.{taskCountAt, mostTasks}
 use Rattle.head.specs.from_bytes.Record.{lengthFits}
 use borrow.Author.Needs.{needs}
 use Rattle.head.proofs.from_bytes.length_fits.Statement.{statement}
@@ -14,9 +14,14 @@ returns c = rw (ne-eqb _ _ (c .if1 .taken))
 shared-slice-read-count : tie.Need-shared-slice-read-count
 shared-slice-read-count c = search needs
 
+cast-if2 : tie.Need-cast-if2
+cast-if2 c = omega (arith, c .shared-slice-known2 .given taskCountAt .fits)
+
 returns-2 : tie.Need-returns-2
 unfolding lengthFits
-returns-2 c = rw (eq-eqb _ _ (c .before .before .if1 .left), lt-leb _ 16 (c .if2 .taken))
+returns-2 c =
+    let whole : tie.Else1 = search in
+    rw (eq-eqb _ _ (whole .if1 .left), lt-leb _ mostTasks (c .if2 .taken))
 
 shared-slice-read-two-bytes : tie.Need-shared-slice-read-two-bytes
 shared-slice-read-two-bytes c = search needs
@@ -30,15 +35,16 @@ two-bytes-requires c κs = search needs
 cast-result : tie.Need-cast-result
 cast-result c = search needs
 
-mul-result : tie.Need-mul-result
-mul-result c = search needs
-
-add-result : tie.Need-add-result
-add-result c = search needs
+length-of-requires : tie.Need-length-of-requires
+length-of-requires c κs = search needs
 
 returns-3 : tie.Need-returns-3
 unfolding lengthFits
-returns-3 c = rw (eq-eqb _ _ (c .before .before .before .before .before .if1 .left), le-leb (countIn (c .before .before .before .before .before .before .before .args .buffer .now)) 16 (omega (arith, c .before .before .before .if2 .left)), c .two-bytes .ensures)
+returns-3 c =
+    let read : tie.After-two-bytes = search in
+    let few : tie.Else2 = search in
+    let whole : tie.Else1 = search in
+    rw (eq-eqb _ _ (whole .if1 .left), le-leb _ mostTasks (few .if2 .left), ← read .two-bytes .ensures, ← c .length-of .ensures)
 
 pub length-fits-spec : {M : Type 1} → statement M
 length-fits-spec =
@@ -46,11 +52,11 @@ length-fits-spec =
     (tie.spec
     returns
     shared-slice-read-count
+    cast-if2
     returns-2
     shared-slice-read-two-bytes
     shared-slice-read-two-bytes-2
     two-bytes-requires
     cast-result
-    mul-result
-    add-result
+    length-of-requires
     returns-3)

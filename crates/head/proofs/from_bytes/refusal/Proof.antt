@@ -4,6 +4,7 @@ use mathlib.Core.Bool.{true, false}
 use native.Mathlib.Omega.{arith}
 use borrow.Author.Tests.{eq-eqb, ne-eqb, not-true, not-false}
 use lib.ListN.{take, drop, getD}
+use Rattle.layout.specs.Layout.{versionAt, registerSize, codedSize}
 use Rattle.record.specs.Bytes.{isWithin}
 use Rattle.record.specs.Refusals.{firstOf}
 use Rattle.register.specs.Codes.{largest}
@@ -48,8 +49,8 @@ unfolding headRefusal firstOf
 returns-3 c =
     let b = c .before .before .before .before .before .before .before .args .buffer .now in
     let fits : lengthFits b ≡ true = sym (c .before .before .before .before .before .length-fits .ensures) ∙ not-false _ (c .before .before .before .before .if1 .left) in
-    let fails : isWithin (take 105 (drop 3 b)) (drop 3 largest) ≡ false = sym (c .before .within .ensures) ∙ not-true _ (c .if3 .taken) in
-    rw (fits, eq-eqb (getD b 2 0) 1 (omega (arith, c .before .before .if2 .left)), fails)
+    let fails : isWithin (take codedSize (drop registerSize b)) (drop registerSize largest) ≡ false = sym (c .before .within .ensures) ∙ not-true _ (c .if3 .taken) in
+    rw (fits, eq-eqb (getD b versionAt 0) 1 (omega (arith, c .before .before .if2 .left)), fails)
 
 fit-requires : tie.Need-fit-requires
 fit-requires c κs =
@@ -62,7 +63,7 @@ unfolding headRefusal firstOf
 returns-4 c =
     let b = c .before .before .before .before .before .before .before .before .before .args .buffer .now in
     let fits : lengthFits b ≡ true = sym (c .before .before .before .before .before .before .before .length-fits .ensures) ∙ not-false _ (c .before .before .before .before .before .before .if1 .left) in
-    let codes : isWithin (take 105 (drop 3 b)) (drop 3 largest) ≡ true = sym (c .before .before .before .within .ensures) ∙ not-false _ (c .before .before .if3 .left) in
+    let codes : isWithin (take codedSize (drop registerSize b)) (drop registerSize largest) ≡ true = sym (c .before .before .before .within .ensures) ∙ not-false _ (c .before .before .if3 .left) in
     let fails : tasksFit b ≡ false = sym (c .before .fit .ensures) ∙ not-true _ (c .if4 .taken) in
     rw (fits, eq-eqb _ 1 (c .before .before .before .before .if2 .left), codes, fails)
 
@@ -71,7 +72,7 @@ unfolding headRefusal firstOf
 returns-5 c =
     let b = c .before .before .before .before .before .before .before .before .before .args .buffer .now in
     let fits : lengthFits b ≡ true = sym (c .before .before .before .before .before .before .before .length-fits .ensures) ∙ not-false _ (c .before .before .before .before .before .before .if1 .left) in
-    let codes : isWithin (take 105 (drop 3 b)) (drop 3 largest) ≡ true = sym (c .before .before .before .within .ensures) ∙ not-false _ (c .before .before .if3 .left) in
+    let codes : isWithin (take codedSize (drop registerSize b)) (drop registerSize largest) ≡ true = sym (c .before .before .before .within .ensures) ∙ not-false _ (c .before .before .if3 .left) in
     let tasks : tasksFit b ≡ true = sym (c .before .fit .ensures) ∙ not-false _ (c .if4 .left) in
     rw (fits, eq-eqb _ 1 (c .before .before .before .before .if2 .left), codes, tasks)
 

@@ -6,11 +6,8 @@ use borrow.Author.Needs.{needs}
 use Rattle.head.proofs.to_bytes.write_front.Statement.{statement}
 use Rattle.head.proofs.to_bytes.write_front.Tie as tie
 
-mul-length : tie.Need-mul-length
-mul-length c = search needs
-
-add-length : tie.Need-add-length
-add-length c = search needs
+length-of-requires : tie.Need-length-of-requires
+length-of-requires c κs = search needs
 
 cast-buffer : tie.Need-cast-buffer
 cast-buffer c = search needs
@@ -32,14 +29,15 @@ same-length c = search needs
 
 returns : tie.Need-returns
 unfolding frontOf
-returns c = laid-sets 0 (frontOf (c .args .count)) (c .args .buffer .now) (omega arith)
+returns c =
+    let start : tie.Start = search in
+    rw (c .length-of .ensures) (laid-sets 0 (frontOf (start .args .count)) (start .args .buffer .now) (omega arith))
 
 pub write-front-spec : {M : Type 1} → statement M
 write-front-spec =
     tie.close
     (tie.spec
-    mul-length
-    add-length
+    length-of-requires
     cast-buffer
     slice-write-buffer
     cast-buffer-2

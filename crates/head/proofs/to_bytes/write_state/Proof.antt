@@ -1,6 +1,7 @@
--- `head::to_bytes::write_state` meets its contract: six stores in a row. Assumes nothing.
+-- `head::to_bytes::write_state` meets its contract: stores in a row. Assumes nothing.
 use native.Mathlib.Omega.{arith}
 use lib.ListN.{length-set}
+use Rattle.layout.specs.Layout.{hxt48ReadyAt}
 use Rattle.head.specs.from_bytes.Record.{stateOf}
 use Rattle.record.proofs.Laid.{laid-sets}
 use borrow.Author.Needs.{needs}
@@ -42,7 +43,7 @@ unfolding stateOf
 returns c =
     let start = c .before .before .before .before in
     rw (c .before .before .flag .ensures, c .before .flag2 .ensures, c .flag3 .ensures)
-    (laid-sets 105 (stateOf (start .args .head)) (start .args .buffer .now) (omega arith))
+    (laid-sets hxt48ReadyAt (stateOf (start .args .head)) (start .args .buffer .now) (omega arith))
 
 pub write-state-spec : {M : Type 1} → statement M
 write-state-spec =

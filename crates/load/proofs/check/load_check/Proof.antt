@@ -9,7 +9,7 @@ use borrow.Author.Needs.{needs}
 use borrow.Author.Tests.{eq-eqb, ne-eqb, lt-ltb, le-ltb, not-true, not-false}
 use Rattle.task.specs.Task.{allOk, distinct}
 use Rattle.load.specs.Load.{loadOf}
-use Rattle.load.specs.check.{listed}
+use Rattle.load.specs.check.{listedSize, listed}
 use Rattle.load.proofs.check.Cases.{refuses, accepts, not-nine-each, too-many, one-wrong, two-alike, none, first-listed}
 use Rattle.load.proofs.check.load_check.Statement.{statement}
 use Rattle.load.proofs.check.load_check.Tie as tie
@@ -65,7 +65,7 @@ returns-5 c =
     let b = c .before .before .before .before .before .before .before .before .before .args .bytes .now in
     let holds : allOk (listed b) ≡ true = sym (c .before .before .before .all-ok .ensures) ∙ not-false _ (c .before .before .if3 .left) in
     let apart : distinct (listed b) ≡ true = sym (c .before .distinct .ensures) ∙ not-false _ (c .if4 .left) in
-    let load = c .before .before .before .before .load .ensures ∙ ap loadOf (ap (take (length b / 9)) (c .before .before .before .before .before .tasks-at .ensures) ∙ first-listed b) in
+    let load = c .before .before .before .before .load .ensures ∙ ap loadOf (ap (take (length b / listedSize)) (c .before .before .before .before .before .tasks-at .ensures) ∙ first-listed b) in
     rw load (accepts b (none b (eq-eqb _ _ (c .before .before .before .before .before .before .before .if1 .left)) (le-ltb _ _ (c .before .before .before .before .before .before .if2 .left)) holds apart))
 
 pub load-check-spec : {M : Type 1} → statement M

@@ -8,14 +8,15 @@ use native.Mathlib.Omega.{arith}
 use lib.ListN.{length, drop, replicate}
 use Rattle.record.specs.Items.{items}
 use Rattle.register.specs.Word.{wordIn}
-use Rattle.register.specs.bytes.{bufferBytes, registersIn}
+use Rattle.layout.specs.Layout.{registerSize, bufferBytes}
+use Rattle.register.specs.bytes.{registersIn}
 use Rattle.record.proofs.Items.{fill-from-one}
 use Rattle.register.proofs.bytes.read.Statement.{statement}
 use Rattle.register.proofs.bytes.read.Tie as tie
 
 abbrev Inv-loop : tie.InvT-loop
 Inv-loop buffer regs₀ n₀ regs n =
-    (1 ≤ n) × ((n ≤ 35) × ((length buffer ≡ bufferBytes) × (regs ≡ (0 ∷ items wordIn 3 (n - 1) (drop 3 buffer)) ++ replicate (35 - n) 0)))
+    (1 ≤ n) × ((n ≤ 35) × ((length buffer ≡ bufferBytes) × (regs ≡ (0 ∷ items wordIn registerSize (n - 1) (drop registerSize buffer)) ++ replicate (35 - n) 0)))
 
 abbrev μ-loop : tie.MeasureT-loop
 μ-loop buffer regs₀ n₀ regs n = 35 - n
@@ -46,14 +47,14 @@ loop-again : tie.Need-loop-again Inv-loop μ-loop
 loop-again c =
     let loop = c .before .before .loop in
     let b = c .before .before .before .before .args .buffer .now in
-    (omega arith, (omega arith, (loop .inv .1 .1 .0, rw (c .word-at .ensures) (fill-from-one wordIn 3 b 34 (loop .n) 0 (loop .regs) (loop .inv .0) (omega arith) (loop .inv .1 .1 .1)))))
+    (omega arith, (omega arith, (loop .inv .1 .1 .0, rw (c .word-at .ensures) (fill-from-one wordIn registerSize b 34 (loop .n) 0 (loop .regs) (loop .inv .0) (omega arith) (loop .inv .1 .1 .1)))))
 
 returns : tie.Need-returns Inv-loop μ-loop
 unfolding registersIn
 returns c =
     let loop = c .before .loop in
     let all : loop .n ≡ 35 = omega arith in
-    (rw all at (loop .inv .1 .1 .1)) ∙ ap (λ (l : List ℕ). 0 ∷ l) (append-nil (items wordIn 3 34 (drop 3 (c .before .before .before .args .buffer .now))))
+    (rw all at (loop .inv .1 .1 .1)) ∙ ap (λ (l : List ℕ). 0 ∷ l) (append-nil (items wordIn registerSize 34 (drop registerSize (c .before .before .before .args .buffer .now))))
 
 pub read-spec : {M : Type 1} → statement M
 read-spec =

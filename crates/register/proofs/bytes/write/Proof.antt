@@ -7,23 +7,23 @@ use mathlib.Core.Path.{_≡_, sym, ap, _∙_}
 use borrow.Author.Needs.{needs}
 use native.Mathlib.Omega.{arith}
 use lib.ListN.{length, getD, take, drop, length-drop}
+use Rattle.layout.specs.Layout.{registerSize, bufferBytes}
 use Rattle.register.specs.Word.{wordBytes}
 use Rattle.record.specs.Items.{joined, laid}
 use Rattle.record.proofs.Laid.{laid-none, laid-from-one}
 use Rattle.register.proofs.bytes.write.Statement.{statement}
 use Rattle.register.proofs.bytes.write.Tie as tie
-use Rattle.register.specs.bytes.{bufferBytes}
 
 abbrev Inv-loop : tie.InvT-loop
 Inv-loop buffer₀ regs n₀ buffer n =
-    (1 ≤ n) × ((n ≤ 35) × ((length buffer₀ ≡ bufferBytes) × ((length regs ≡ 35) × ((length buffer ≡ bufferBytes) × (buffer ≡ laid 3 (joined wordBytes (take (n - 1) (drop 1 regs))) buffer₀)))))
+    (1 ≤ n) × ((n ≤ 35) × ((length buffer₀ ≡ bufferBytes) × ((length regs ≡ 35) × ((length buffer ≡ bufferBytes) × (buffer ≡ laid registerSize (joined wordBytes (take (n - 1) (drop 1 regs))) buffer₀)))))
 
 abbrev μ-loop : tie.MeasureT-loop
 μ-loop buffer₀ regs n₀ buffer n = 35 - n
 
 loop-holds : tie.Need-loop-holds Inv-loop μ-loop
 unfolding joined
-loop-holds c = (omega arith, (omega arith, (search needs, (search needs, (search needs, sym (laid-none 3 _))))))
+loop-holds c = (omega arith, (omega arith, (search needs, (search needs, (search needs, sym (laid-none registerSize _))))))
 
 mul-put-word : tie.Need-mul-put-word Inv-loop μ-loop
 mul-put-word c = search needs
@@ -50,9 +50,9 @@ loop-again c =
     let regs = start .args .t1 in
     let b = start .args .buffer .now in
     let call = c .before .before .put-word in
-    let turn = laid-from-one wordBytes 3 word-length b regs (loop .n) 0 (loop .inv .0) (omega arith) (omega arith) in
+    let turn = laid-from-one wordBytes registerSize word-length b regs (loop .n) 0 (loop .inv .0) (omega arith) (omega arith) in
     let word = wordBytes (getD regs (loop .n) 0) in
-    let put = call .ensures ∙ ap (laid (3 * loop .n) word) (loop .inv .1 .1 .1 .1 .1) in
+    let put = call .ensures ∙ ap (laid (registerSize * loop .n) word) (loop .inv .1 .1 .1 .1 .1) in
     (omega arith, (omega arith, (loop .inv .1 .1 .0, (loop .inv .1 .1 .1 .0, (call .kept .0 ∙ loop .inv .1 .1 .1 .1 .0, put ∙ turn)))))
 
 same-length : tie.Need-same-length Inv-loop μ-loop

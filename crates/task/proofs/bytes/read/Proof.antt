@@ -4,11 +4,11 @@ use Rattle.task.specs.bytes.{tasksIn, placesIn}
 use Rattle.task.proofs.bytes.read.Statement.{statement}
 use Rattle.task.proofs.bytes.read.Tie as tie
 
-shared-slice-read-tasks-at : tie.Need-shared-slice-read-tasks-at
-shared-slice-read-tasks-at c = search needs
+shared-slice-read-count : tie.Need-shared-slice-read-count
+shared-slice-read-count c = search needs
 
-cast-tasks-at : tie.Need-cast-tasks-at
-cast-tasks-at c = search needs
+cast-count : tie.Need-cast-count
+cast-count c = search needs
 
 tasks-at-requires : tie.Need-tasks-at-requires
 tasks-at-requires c κs = search needs
@@ -18,4 +18,4 @@ unfolding placesIn tasksIn
 returns c = search needs
 
 pub read-spec : {M : Type 1} → statement M
-read-spec = tie.close (tie.spec shared-slice-read-tasks-at cast-tasks-at tasks-at-requires returns)
+read-spec = tie.close (tie.spec shared-slice-read-count cast-count tasks-at-requires returns)

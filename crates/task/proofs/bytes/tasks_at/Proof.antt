@@ -6,31 +6,41 @@ use borrow.Author.Needs.{needs}
 use native.Mathlib.Omega.{arith}
 use lib.ListN.{length, drop}
 use Rattle.record.specs.Items.{items}
+use Rattle.layout.specs.Layout.{mostTasks}
 use Rattle.task.specs.Task.{noTask}
 use Rattle.task.specs.bytes.{taskIn, placed}
-use Rattle.record.proofs.Items.{fill-items}
+use Rattle.record.proofs.Items.{fill-items, item-within}
 use Rattle.task.proofs.bytes.tasks_at.Statement.{statement}
 use Rattle.task.proofs.bytes.tasks_at.Tie as tie
 
 abbrev Inv-loop : tie.InvT-loop
-Inv-loop bytes at count tasks₀ i₀ tasks i =
-    (i ≤ count) × ((count ≤ 16) × ((at + 9 * count ≤ length bytes) × (tasks ≡ placed (items taskIn 9 i (drop at bytes)) i)))
+Inv-loop bytes at size count tasks₀ i₀ tasks i =
+    (i ≤ count) × ((count ≤ mostTasks) × ((at + size * count ≤ length bytes) × (tasks ≡ placed (items taskIn size i (drop at bytes)) i)))
 
 abbrev μ-loop : tie.MeasureT-loop
-μ-loop bytes at count tasks₀ i₀ tasks i = count - i
+μ-loop bytes at size count tasks₀ i₀ tasks i = count - i
 
 loop-holds : tie.Need-loop-holds Inv-loop μ-loop
 unfolding items
-loop-holds c = (omega arith, (c .before .pre .1, (c .before .pre .0, refl)))
+loop-holds c = (omega arith, (c .before .pre .1 .1, (c .before .pre .1 .0, refl)))
 
 mul-task-at : tie.Need-mul-task-at Inv-loop μ-loop
-mul-task-at c = search needs
+mul-task-at c =
+    let turn : tie.At-loop Inv-loop μ-loop = search in
+    let start : tie.Start Inv-loop μ-loop = search in
+    omega (arith, item-within (start .args .size) (turn .loop .i) (start .args .count) (omega arith))
 
 add-task-at : tie.Need-add-task-at Inv-loop μ-loop
-add-task-at c = search needs
+add-task-at c =
+    let turn : tie.At-loop Inv-loop μ-loop = search in
+    let start : tie.Start Inv-loop μ-loop = search in
+    omega (arith, item-within (start .args .size) (turn .loop .i) (start .args .count) (omega arith))
 
 task-at-requires : tie.Need-task-at-requires Inv-loop μ-loop
-task-at-requires c κs = search needs
+task-at-requires c κs =
+    let turn : tie.At-loop Inv-loop μ-loop = search in
+    let start : tie.Start Inv-loop μ-loop = search in
+    omega (arith, item-within (start .args .size) (turn .loop .i) (start .args .count) (omega arith))
 
 mul-tasks : tie.Need-mul-tasks Inv-loop μ-loop
 mul-tasks c = search needs
@@ -46,16 +56,17 @@ loop-less c = search needs
 
 loop-again : tie.Need-loop-again Inv-loop μ-loop
 loop-again c =
-    let loop = c .before .before .loop in
-    let args = c .before .before .before .before .args in
-    let turn = fill-items taskIn 9 (args .at) (args .bytes .now) 16 (loop .i) noTask (loop .tasks) (omega arith) (loop .inv .1 .1 .1) in
-    (omega arith, (loop .inv .1 .0, (loop .inv .1 .1 .0, rw (c .task-at .ensures) turn)))
+    let turn : tie.At-loop Inv-loop μ-loop = search in
+    let start : tie.Start Inv-loop μ-loop = search in
+    let fill = fill-items taskIn (start .args .size) (start .args .at) (start .args .bytes .now) mostTasks (turn .loop .i) noTask (turn .loop .tasks) (omega arith) (turn .loop .inv .1 .1 .1) in
+    (omega arith, (turn .loop .inv .1 .0, (turn .loop .inv .1 .1 .0, rw (c .task-at .ensures) fill)))
 
 returns : tie.Need-returns Inv-loop μ-loop
 returns c =
-    let loop = c .before .loop in
-    let all : loop .i ≡ c .before .before .before .args .count = omega arith in
-    rw all at (loop .inv .1 .1 .1)
+    let turn : tie.At-loop Inv-loop μ-loop = search in
+    let start : tie.Start Inv-loop μ-loop = search in
+    let all : turn .loop .i ≡ start .args .count = omega arith in
+    rw all at (turn .loop .inv .1 .1 .1)
 
 pub tasks-at-spec : {M : Type 1} → statement M
 tasks-at-spec =

@@ -11,12 +11,12 @@ use Rattle.record.specs.Items.{joined, laid}
 use Rattle.record.proofs.Laid.{laid-none, laid-item}
 use Rattle.task.proofs.bytes.write.Statement.{statement}
 use Rattle.task.proofs.bytes.write.Tie as tie
-use Rattle.register.specs.bytes.{bufferBytes}
-use Rattle.task.specs.bytes.{taskBytes, firstTask}
+use Rattle.layout.specs.Layout.{mostTasks, firstTask, taskSize, bufferBytes}
+use Rattle.task.specs.bytes.{taskBytes}
 
 abbrev Inv-loop : tie.InvT-loop
 Inv-loop count buffer₀ tasks end i₀ buffer i =
-    (i ≤ end) × ((length buffer₀ ≡ bufferBytes) × ((length tasks ≡ 16) × ((length buffer ≡ bufferBytes) × (buffer ≡ laid firstTask (joined taskBytes (take i tasks)) buffer₀))))
+    (i ≤ end) × ((length buffer₀ ≡ bufferBytes) × ((length tasks ≡ mostTasks) × ((length buffer ≡ bufferBytes) × (buffer ≡ laid firstTask (joined taskBytes (take i tasks)) buffer₀))))
 
 abbrev μ-loop : tie.MeasureT-loop
 μ-loop count buffer₀ tasks end i₀ buffer i = end - i
@@ -53,9 +53,9 @@ loop-again c =
     let ts = start .args .t1 in
     let b = start .args .buffer .now in
     let call = c .before .before .put-task in
-    let turn = laid-item taskBytes 9 task-length firstTask b ts (loop .i) noTask (omega (arith, start .pre)) (omega (arith, start .pre)) in
+    let turn = laid-item taskBytes taskSize task-length firstTask b ts (loop .i) noTask (omega (arith, start .pre)) (omega (arith, start .pre)) in
     let task = taskBytes (getD ts (loop .i) noTask) in
-    let put = call .ensures ∙ ap (laid (firstTask + 9 * loop .i) task) (loop .inv .1 .1 .1 .1) in
+    let put = call .ensures ∙ ap (laid (firstTask + taskSize * loop .i) task) (loop .inv .1 .1 .1 .1) in
     (omega arith, (loop .inv .1 .0, (loop .inv .1 .1 .0, (call .kept .0 ∙ loop .inv .1 .1 .1 .0, put ∙ turn))))
 
 same-length : tie.Need-same-length Inv-loop μ-loop

@@ -6,32 +6,40 @@ use borrow.Author.Needs.{needs}
 use borrow.Author.Tests.{eq-eqb, ne-eqb}
 use native.Mathlib.Omega.{arith}
 use lib.ListN.{getD, drop}
+use Rattle.record.proofs.Items.{item-within}
 use Rattle.task.specs.Task.{hasId}
 use Rattle.task.proofs.list.Rest.{tasks, has-step, has-none}
 use Rattle.task.proofs.list.has_id.Statement.{statement}
 use Rattle.task.proofs.list.has_id.Tie as tie
 
 abbrev Inv-loop : tie.InvT-loop
-Inv-loop bytes from count id i₀ i = (i ≤ count) × (hasId id (drop i (tasks bytes count)) ≡ hasId id (drop from (tasks bytes count)))
+Inv-loop bytes size from count id i₀ i = (i ≤ count) × (hasId id (drop i (tasks size bytes count)) ≡ hasId id (drop from (tasks size bytes count)))
 
 abbrev μ-loop : tie.MeasureT-loop
-μ-loop bytes from count id i₀ i = count - i
+μ-loop bytes size from count id i₀ i = count - i
 
 loop-holds : tie.Need-loop-holds Inv-loop μ-loop
 loop-holds c = (omega arith, refl)
 
 mul-if1 : tie.Need-mul-if1 Inv-loop μ-loop
-mul-if1 c = search needs
+mul-if1 c =
+    let turn : tie.At-loop Inv-loop μ-loop = search in
+    let start : tie.Start Inv-loop μ-loop = search in
+    omega (arith, item-within (start .args .size) (turn .loop .i) (start .args .count) (omega arith))
 
 shared-slice-read-if1 : tie.Need-shared-slice-read-if1 Inv-loop μ-loop
-shared-slice-read-if1 c = search needs
+shared-slice-read-if1 c =
+    let turn : tie.At-loop Inv-loop μ-loop = search in
+    let start : tie.Start Inv-loop μ-loop = search in
+    omega (arith, item-within (start .args .size) (turn .loop .i) (start .args .count) (omega arith))
 
 returns : tie.Need-returns Inv-loop μ-loop
 returns c =
-    let args = c .before .before .before .before .args in
-    let loop = c .before .before .before .loop in
-    let found = eq-eqb (getD (args .bytes .now) (9 * loop .i) 0) (args .id) (c .if1 .taken) in
-    sym (sym (loop .inv .1) ∙ (has-step (args .bytes .now) (args .count) (loop .i) (omega arith) (args .id) ∙ rw found))
+    let turn : tie.At-loop Inv-loop μ-loop = search in
+    let start : tie.Start Inv-loop μ-loop = search in
+    let b = start .args .bytes .now in
+    let found = eq-eqb (getD b (start .args .size * turn .loop .i) 0) (start .args .id) (c .if1 .taken) in
+    sym (sym (turn .loop .inv .1) ∙ (has-step (start .args .size) b (start .args .count) (turn .loop .i) (omega arith) (start .args .id) ∙ rw found))
 
 add-i : tie.Need-add-i Inv-loop μ-loop
 add-i c = search needs
@@ -41,16 +49,17 @@ loop-less c = search needs
 
 loop-again : tie.Need-loop-again Inv-loop μ-loop
 loop-again c =
-    let args = c .before .before .before .before .args in
-    let loop = c .before .before .before .loop in
-    let other = ne-eqb (getD (args .bytes .now) (9 * loop .i) 0) (args .id) (c .if1 .left) in
-    (omega arith, sym (rw other at (has-step (args .bytes .now) (args .count) (loop .i) (omega arith) (args .id))) ∙ loop .inv .1)
+    let turn : tie.At-loop Inv-loop μ-loop = search in
+    let start : tie.Start Inv-loop μ-loop = search in
+    let b = start .args .bytes .now in
+    let other = ne-eqb (getD b (start .args .size * turn .loop .i) 0) (start .args .id) (c .if1 .left) in
+    (omega arith, sym (rw other at (has-step (start .args .size) b (start .args .count) (turn .loop .i) (omega arith) (start .args .id))) ∙ turn .loop .inv .1)
 
 returns-2 : tie.Need-returns-2 Inv-loop μ-loop
 returns-2 c =
-    let args = c .before .before .args in
-    let loop = c .before .loop in
-    sym (sym (loop .inv .1) ∙ has-none (args .bytes .now) (args .count) (loop .i) (omega arith) (args .id))
+    let turn : tie.At-loop Inv-loop μ-loop = search in
+    let start : tie.Start Inv-loop μ-loop = search in
+    sym (sym (turn .loop .inv .1) ∙ has-none (start .args .size) (start .args .bytes .now) (start .args .count) (turn .loop .i) (omega arith) (start .args .id))
 
 pub has-id-spec : {M : Type 1} → statement M
 has-id-spec =
