@@ -9,6 +9,7 @@ use borrow.Author.Tests.{lt-ltb, ltb-true}
 use lib.Dec.{ltb, leb·zero}
 use lib.ListN.{length, getD, drop, replicate, length-drop}
 use lib.Seq.{getD-take, getD-drop, length-take-le}
+use Rattle.layout.specs.Layout.{registerSize, bootModeAt}
 use Rattle.record.specs.Bytes.{isWithin}
 use Rattle.record.proofs.Bytes.{and-left, and-right, within-at}
 use Rattle.register.specs.Word.{wordOf, wordBytes, byteA, byteB, byteC}
@@ -23,11 +24,11 @@ repeated (suc n) (suc k) = repeated n k
 largest-byte : (k : ℕ) → getD largest k 0 ≤ 255
 unfolding largest isWithin
 largest-byte k =
-    let each : isWithin largest (replicate 108 255) ≡ true = refl in
-    omega (arith, within-at largest (replicate 108 255) each k, repeated 108 k)
+    let each : isWithin largest (replicate bootModeAt 255) ≡ true = refl in
+    omega (arith, within-at largest (replicate bootModeAt 255) each k, repeated bootModeAt k)
 
-codes-byte : (n j : ℕ) → j < 3 → getD (codesOf n) j 0 ≤ 255
-codes-byte n j h = rw (getD-take 3 (drop (3 * n) largest) j 0 h, getD-drop (3 * n) largest j 0) (largest-byte (3 * n + j))
+codes-byte : (n j : ℕ) → j < registerSize → getD (codesOf n) j 0 ≤ 255
+codes-byte n j h = rw (getD-take registerSize (drop (registerSize * n) largest) j 0 h, getD-drop (registerSize * n) largest j 0) (largest-byte (registerSize * n + j))
 
 -- three bytes within the codes of register `n` are a word that it may hold
 pub word-fits : (n x y z : ℕ) → isWithin (x ∷ y ∷ z ∷ []) (codesOf n) ≡ true → fitsRegister n (wordOf x y z) ≡ true
@@ -64,7 +65,7 @@ unused-zero v e =
     omega (arith, fits-word 0 v e, high, each 1, each 2)
 
 -- and 0 fits every number
-zero-within : (ms : List ℕ) → length ms ≡ 3 → isWithin (0 ∷ 0 ∷ 0 ∷ []) ms ≡ true
+zero-within : (ms : List ℕ) → length ms ≡ registerSize → isWithin (0 ∷ 0 ∷ 0 ∷ []) ms ≡ true
 unfolding isWithin
 zero-within [] e = absurd (omega arith)
 zero-within (x ∷ []) e = absurd (omega arith)
@@ -74,4 +75,4 @@ zero-within (x ∷ y ∷ z ∷ w ∷ ms) e = absurd (omega arith)
 
 pub zero-fits : (n : ℕ) → n < 35 → fitsRegister n 0 ≡ true
 unfolding largest
-zero-fits n h = word-fits n 0 0 0 (zero-within (codesOf n) (length-take-le 3 (drop (3 * n) largest) (rw length-drop (omega arith))))
+zero-fits n h = word-fits n 0 0 0 (zero-within (codesOf n) (length-take-le registerSize (drop (registerSize * n) largest) (rw length-drop (omega arith))))

@@ -4,11 +4,12 @@ use mathlib.Core.Path.{_≡_, refl}
 use mathlib.Core.List.{List, [], _∷_, _++_}
 use native.Mathlib.Omega.{arith}
 use lib.ListN.{length, getD, take}
+use Rattle.layout.specs.Layout.{registerSize}
 use Rattle.record.specs.Bytes.{Bytes}
 use Rattle.register.specs.Word.{wordOf, wordBytes, wordIn}
 
--- three bytes
-pub word-length : (w : ℕ) → length (wordBytes w) ≡ 3
+-- as many bytes as a register has
+pub word-length : (w : ℕ) → length (wordBytes w) ≡ registerSize
 unfolding wordBytes
 word-length w = refl
 
@@ -16,7 +17,7 @@ pub word-of-bytes : (w : ℕ) (rest : List ℕ) → w < 16777216 → wordIn (wor
 unfolding wordIn wordBytes
 word-of-bytes w rest h = omega arith
 
-pub bytes-of-word : (b : List ℕ) → 3 ≤ length b → Bytes b → wordBytes (wordIn b) ≡ take 3 b
+pub bytes-of-word : (b : List ℕ) → registerSize ≤ length b → Bytes b → wordBytes (wordIn b) ≡ take registerSize b
 unfolding wordIn wordBytes
 bytes-of-word [] h bytes = absurd (omega arith)
 bytes-of-word (x ∷ []) h bytes = absurd (omega arith)
@@ -31,6 +32,6 @@ bytes-of-word (x ∷ y ∷ z ∷ b) h bytes =
     rw (a, b, c)
 
 -- a word is read from its own bytes only
-pub word-same : (b d : List ℕ) → ((i : ℕ) → i < 3 → getD b i 0 ≡ getD d i 0) → wordIn b ≡ wordIn d
+pub word-same : (b d : List ℕ) → ((i : ℕ) → i < registerSize → getD b i 0 ≡ getD d i 0) → wordIn b ≡ wordIn d
 unfolding wordIn
 word-same b d agree = rw (agree 0 (omega arith), agree 1 (omega arith), agree 2 (omega arith))

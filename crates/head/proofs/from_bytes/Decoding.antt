@@ -6,7 +6,8 @@ use mathlib.Core.List.{List, [], _∷_, _++_, append-assoc}
 use native.Mathlib.Omega.{arith}
 use lib.ListN.{length, getD, take, drop, replicate, length-append, length-drop, length-replicate, take-append-drop}
 use lib.Seq.{getD-take, getD-drop, take-add, drop-at, length-take-le, drop-drop}
-use Rattle.layout.specs.Layout.{registerSize, registersSize, hxt48ReadyAt, hrc48ReadyAt, lpsysHxt48ReadyAt, bootModeAt, wakeCountAt, codedSize, stateSize, mostTasks, firstTask, taskSize, recordSize, lengthOf}
+use Rattle.layout.specs.Layout.{registerSize, registersSize, hxt48ReadyAt, hrc48ReadyAt, lpsysHxt48ReadyAt, bootModeAt, wakeCountAt}
+use Rattle.layout.specs.Layout.{codedSize, stateSize, mostTasks, firstTask, taskSize, recordSize, lengthOf}
 use Rattle.record.proofs.Bytes.{within-at}
 use Rattle.task.specs.declared.Task.{Task}
 use Rattle.register.specs.Word.{wordIn, wordBytes}
@@ -54,7 +55,9 @@ module _ (b : List ℕ) (p : Passed b) (bytes : Bytes b) where
       rw e (joined-at wordBytes registerSize word-length ws (take 3 (drop registersSize (drop registerSize b))) k 0 l) in
       let next : registerSize * suc k ≡ registerSize + registerSize * k = omega arith in
       let codes : take registerSize (drop (registerSize * k) (drop registerSize largest)) ≡ codesOf (suc k) = rw (drop-drop (registerSize * k) registerSize largest, next) in
-      codes-fit (suc k) (getD ws k 0) (rw (items-at wordIn registerSize 34 (drop registerSize b) k 0 (omega arith)) (word-in-24 _ (bytes-drop (drop registerSize b) (registerSize * k) (bytes-drop b registerSize bytes))))
+      let small : getD ws k 0 < 16777216 =
+      rw (items-at wordIn registerSize 34 (drop registerSize b) k 0 (omega arith)) (word-in-24 _ (bytes-drop (drop registerSize b) (registerSize * k) (bytes-drop b registerSize bytes))) in
+      codes-fit (suc k) (getD ws k 0) small
       (rw (← here, ← codes) (within-part (registerSize * k) registerSize (take codedSize (drop registerSize b)) (drop registerSize largest) (p .codes)))
 
   -- those past the booked tasks are empty
@@ -71,7 +74,8 @@ module _ (b : List ℕ) (p : Passed b) (bytes : Bytes b) where
   places-in-bytes k h =
       let e : getD (placesIn b) k noTask ≡ getD (tasksIn b) k noTask =
       sym (getD-take (countIn b) (placesIn b) k noTask h) ∙ ap (λ (l : List Task). getD l k noTask) (places-booked b) in
-      rw (e, items-at taskIn taskSize (countIn b) (drop firstTask b) k noTask h) (task-in-bytes (drop (taskSize * k) (drop firstTask b)) (bytes-drop (drop firstTask b) (taskSize * k) (bytes-drop b firstTask bytes)))
+      rw (e, items-at taskIn taskSize (countIn b) (drop firstTask b) k noTask h)
+      (task-in-bytes (drop (taskSize * k) (drop firstTask b)) (bytes-drop (drop firstTask b) (taskSize * k) (bytes-drop b firstTask bytes)))
 
   decoded : Encodable (headOf b)
   unfolding headOf
@@ -131,7 +135,9 @@ module _ (b : List ℕ) (p : Passed b) (bytes : Bytes b) where
   record-again =
       let c : ℕ = taskSize * countIn b in
       let all : take (firstTask + c) b ≡ take registerSize b ++ take registersSize (drop registerSize b) ++ take stateSize (drop hxt48ReadyAt b) ++ take c (drop firstTask b) =
-      take-add firstTask c b ∙ ap (λ (l : List ℕ). l ++ take c (drop firstTask b)) (take-add hxt48ReadyAt stateSize b ∙ ap (λ (l : List ℕ). l ++ take stateSize (drop hxt48ReadyAt b)) (take-add registerSize registersSize b)) in
+      take-add firstTask c b
+      ∙ ap (λ (l : List ℕ). l ++ take c (drop firstTask b))
+      (take-add hxt48ReadyAt stateSize b ∙ ap (λ (l : List ℕ). l ++ take stateSize (drop hxt48ReadyAt b)) (take-add registerSize registersSize b)) in
       rw (front-again, registers-again, state-written, tasks-again) (sym (all ∙ simp append-assoc))
 
 -- encoding what was decoded leaves the bytes as they were

@@ -24,7 +24,8 @@ module _ (b d : List ℕ) (lb : length b ≡ bufferBytes) (ld : length d ≡ buf
 
   codes-same : take codedSize (drop registerSize b) ≡ take codedSize (drop registerSize d)
   codes-same =
-      let bytes : (l : List ℕ) → length l ≡ bufferBytes → length (take codedSize (drop registerSize l)) ≡ codedSize = λ l e. length-take-le codedSize (drop registerSize l) (rw length-drop (omega arith)) in
+      let bytes : (l : List ℕ) → length l ≡ bufferBytes → length (take codedSize (drop registerSize l)) ≡ codedSize =
+      λ l e. length-take-le codedSize (drop registerSize l) (rw length-drop (omega arith)) in
       let byte : (l : List ℕ) (i : ℕ) → i < codedSize → getD (take codedSize (drop registerSize l)) i 0 ≡ getD l (registerSize + i) 0 =
       λ l i h. getD-take codedSize (drop registerSize l) i 0 h ∙ getD-drop registerSize l i 0 in
       ext-getD 0 (take codedSize (drop registerSize b)) (take codedSize (drop registerSize d)) (bytes b lb ∙ sym (bytes d ld))
@@ -43,7 +44,8 @@ module _ (b d : List ℕ) (lb : length b ≡ bufferBytes) (ld : length d ≡ buf
   unfolding registersIn
   registers-same =
       ap (λ (l : List ℕ). 0 ∷ l)
-      (items-same wordIn registerSize word-same 34 (drop registerSize b) (drop registerSize d) (λ i h. getD-drop registerSize b i 0 ∙ (at (registerSize + i) (omega arith) ∙ sym (getD-drop registerSize d i 0))))
+      (items-same wordIn registerSize word-same 34 (drop registerSize b) (drop registerSize d)
+      (λ i h. getD-drop registerSize b i 0 ∙ (at (registerSize + i) (omega arith) ∙ sym (getD-drop registerSize d i 0))))
 
   -- the same record gives the same refusal and the same head
   pub past-refusal : headRefusal b ≡ headRefusal d

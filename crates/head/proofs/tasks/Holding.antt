@@ -8,6 +8,7 @@ use native.Mathlib.Numerals.{add-one}
 use lib.ListN.{length, getD, take, drop, set, replicate, length-append, length-drop, length-replicate, take-append-drop, replicate-append-replicate, List·getD-append}
 use lib.Seq.{length-take-le, take-append-le, drop-append-le, drop-at}
 use Rattle.record.proofs.Items.{fill}
+use Rattle.layout.specs.Layout.{mostTasks}
 use Rattle.task.specs.declared.Task.{Task}
 use Rattle.task.specs.Task.{noTask, allOk, hasId, distinct, InBytes}
 use Rattle.task.specs.bytes.{placed}
@@ -27,29 +28,29 @@ module _ (h : Head) (ok : Encodable h) where
   tasks-placed = rw booked-length (sym (rw (ok .rest) at (take-append-drop (h .count) (h .tasks))))
 
 -- one more at the end
-pub placed-more : (ts : List Task) (t : Task) → length ts < 16 → set (placed ts (length ts)) (length ts) t ≡ placed (ts ++ (t ∷ [])) (length (ts ++ (t ∷ [])))
+pub placed-more : (ts : List Task) (t : Task) → length ts < mostTasks → set (placed ts (length ts)) (length ts) t ≡ placed (ts ++ (t ∷ [])) (length (ts ++ (t ∷ [])))
 placed-more ts t h =
     let n : length (ts ++ (t ∷ [])) ≡ suc (length ts) = length-append ts (t ∷ []) ∙ add-one (length ts) in
-    rw n (fill ts 16 (length ts) noTask t refl h)
+    rw n (fill ts mostTasks (length ts) noTask t refl h)
 
 -- one less
 less-length : (ts : List Task) (at : ℕ) → at < length ts → length (take at ts ++ drop (suc at) ts) ≡ length ts - 1
 less-length ts at l = length-append (take at ts) (drop (suc at) ts) ∙ rw (length-take-le at ts (omega (arith, l)), length-drop (suc at) ts) (omega (arith, l))
 
-pub placed-less : (ts : List Task) (at : ℕ) → at < length ts → length ts ≤ 16 →
+pub placed-less : (ts : List Task) (at : ℕ) → at < length ts → length ts ≤ mostTasks →
     movedUp at (placed ts (length ts)) ≡ placed (take at ts ++ drop (suc at) ts) (length (take at ts ++ drop (suc at) ts))
 placed-less ts at l h =
-    let R : List Task = replicate (16 - length ts) noTask in
+    let R : List Task = replicate (mostTasks - length ts) noTask in
     let one : List Task = noTask ∷ [] in
-    let count : 16 - length ts + 1 ≡ 16 - (length ts - 1) = omega (arith, l, h) in
-    let more : R ++ one ≡ replicate (16 - (length ts - 1)) noTask =
-    replicate-append-replicate (16 - length ts) 1 noTask ∙ ap (λ (k : ℕ). replicate k noTask) count in
+    let count : mostTasks - length ts + 1 ≡ mostTasks - (length ts - 1) = omega (arith, l, h) in
+    let more : R ++ one ≡ replicate (mostTasks - (length ts - 1)) noTask =
+    replicate-append-replicate (mostTasks - length ts) 1 noTask ∙ ap (λ (k : ℕ). replicate k noTask) count in
     rw (take-append-le at ts R (omega (arith, l)), drop-append-le (suc at) ts R (omega (arith, l)), less-length ts at l, ← more) (simp append-assoc)
 
 -- the same of a head's places, and of its count
 module _ (h : Head) (ok : Encodable h) where
   module _ (t : Task) where
-    pub more-places : h .count < 16 → set (h .tasks) (h .count) t ≡ withTask t h .tasks
+    pub more-places : h .count < mostTasks → set (h .tasks) (h .count) t ≡ withTask t h .tasks
     more-places l =
         ap (λ (ts : List Task). set ts (h .count) t) (tasks-placed h ok)
         ∙ (ap (λ (n : ℕ). set (placed (booked h) (length (booked h))) n t) (sym (booked-length h ok)) ∙ placed-more (booked h) t (omega (arith, l, booked-length h ok)))
@@ -78,17 +79,17 @@ module _ (ts : List Task) (h : Head) where
   pub booked-holding : booked (holding ts h) ≡ ts
   booked-holding = placed-first ts (length ts) refl
 
-  pub holding-encodable : Encodable h → length ts ≤ 16 → allOk ts ≡ true → distinct ts ≡ true → ((k : ℕ) → k < length ts → InBytes (getD ts k noTask)) → Encodable (holding ts h)
+  pub holding-encodable : Encodable h → length ts ≤ mostTasks → allOk ts ≡ true → distinct ts ≡ true → ((k : ℕ) → k < length ts → InBytes (getD ts k noTask)) → Encodable (holding ts h)
   holding-encodable ok few each apart bytes =
       record {
         words = ok .words;
         codes = ok .codes;
         boot = ok .boot;
         wake = ok .wake;
-        places = length-append ts (replicate (16 - length ts) noTask) ∙ rw length-replicate (omega (arith, few));
+        places = length-append ts (replicate (mostTasks - length ts) noTask) ∙ rw length-replicate (omega (arith, few));
         room = few;
         each = rw booked-holding each;
         apart = rw booked-holding apart;
-        inBytes = λ k l. rw (List·getD-append ts (replicate (16 - length ts) noTask) noTask k l) (bytes k l);
-        rest = drop-at ts (replicate (16 - length ts) noTask) (length ts) refl;
+        inBytes = λ k l. rw (List·getD-append ts (replicate (mostTasks - length ts) noTask) noTask k l) (bytes k l);
+        rest = drop-at ts (replicate (mostTasks - length ts) noTask) (length ts) refl;
       }

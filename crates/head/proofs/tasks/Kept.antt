@@ -9,6 +9,7 @@ use lib.Dec.{eqb}
 use lib.ListN.{length, getD, length-append}
 use lib.Seq.{getD-take}
 use Rattle.record.proofs.Bytes.{and-left, and-right, or-left, or-right}
+use Rattle.layout.specs.Layout.{mostTasks}
 use Rattle.task.specs.declared.Task.{Task}
 use Rattle.task.specs.Task.{noTask, taskOk, allOk, hasId, distinct, InBytes}
 use Rattle.head.specs.declared.Head.{Head}
@@ -124,7 +125,7 @@ booked-each h ok k l =
     rw (getD-take (h .count) (h .tasks) k noTask within) (ok .inBytes k within)
 
 -- a head with a task more, or one less, still has a record
-pub more-encodable : (t : Task) (h : Head) → Encodable h → h .count < 16 → taskOk t ≡ true → hasId (t .id) (booked h) ≡ false → InBytes t → Encodable (withTask t h)
+pub more-encodable : (t : Task) (h : Head) → Encodable h → h .count < mostTasks → taskOk t ≡ true → hasId (t .id) (booked h) ≡ false → InBytes t → Encodable (withTask t h)
 more-encodable t h ok room fine new bytes =
     holding-encodable (booked h ++ (t ∷ [])) h ok (rw (length-append (booked h) (t ∷ []), booked-length h ok) (omega (arith, room))) (all-more t (booked h) (ok .each) fine)
     (distinct-more t (booked h) (ok .apart) new) (each-more t (booked h) (booked-each h ok) bytes)

@@ -27,9 +27,11 @@ use prog.Wp.{Heap, Out, Env, afterSeq, afterBlock, afterTurn, Calls, Loops, Wp, 
 use ghost.Atoms.{Atoms, sem}
 use contract.Monad.{Fun, fact}
 use contract.Running.{givenOf, tables, tablesOf}
-use types.Kit.{Given, Item, ‵, raw, _⊛_, ⋆, some, later, runs, anyQ, atRet, Sq, _$_, _∵_, !, qed, by, move, keep, drop, use0, use1, split, join, pick, rewrite, fsplit, fjoin, suffices, frame, await, done}
+use types.Kit.{Given, Item, ‵, raw, _⊛_, ⋆, some, later, runs, anyQ, atRet, Sq, _$_, _∵_, !, qed}
+use types.Kit.{by, move, keep, drop, use0, use1, split, join, pick, rewrite, fsplit, fjoin, suffices, frame, await, done}
 use types.Part.{whole, sub, look-in}
-use types.Run.{look, look-raw, store, init, forget, stop, hop, fld, from, load, lit, of-opd, bin, and-then, no-more, assigns, assigns-last, land, first, skips, jumps, blocks, branches, returns, enter, alloc1, alloc0, params1, pass1, pass0, free1, free0, exec, Below, again, loops}
+use types.Run.{look, look-raw, store, init, forget, stop, hop, fld, from, load, lit, of-opd, bin, and-then, no-more, assigns, assigns-last, land}
+use types.Run.{first, skips, jumps, blocks, branches, returns, enter, alloc1, alloc0, params1, pass1, pass0, free1, free0, exec, Below, again, loops}
 use types.Share.{arr-parts}
 use sound.WpLaws.{FmC, fmOf, WpFn-mono}
 use denote.RattleType.{owns}
@@ -117,7 +119,8 @@ period-fits t is = LL.owed T.the-type T′.the-laws t _ is .1 .1 .0 .1
 
 -- the state after a turn
 abbrev then : (ys : List Task) (x : Turn ys) → T (ltb (x .at) (length ys)) → held (taskAt ys (x .at)) → (r : ℕ) → r ≡ shareOf (taskAt ys (x .at) .cycles) (taskAt ys (x .at) .period) → Turn ys
-then ys x less is r e = next ys x r (ltb→lt (x .at) (length ys) less) e (omega (arith, e, share-small (taskAt ys (x .at) .cycles) (taskAt ys (x .at) .period) (cycles-fit (taskAt ys (x .at)) is) (period-fits (taskAt ys (x .at)) is)))
+then ys x less is r e = next ys x r (ltb→lt (x .at) (length ys) less) e
+    (omega (arith, e, share-small (taskAt ys (x .at) .cycles) (taskAt ys (x .at) .period) (cycles-fit (taskAt ys (x .at)) is) (period-fits (taskAt ys (x .at)) is)))
 
 module _ {M : Type 1} (𝓤 : URA M) (H : Heap 𝓤) (A : Atoms 𝓤) (mem : Memory → SProp 𝓤) (run : Routine → Fun 𝓤) where
   -- the contract that the proof cites
@@ -210,7 +213,8 @@ module _ {M : Type 1} (𝓤 : URA M) (H : Heap 𝓤) (A : Atoms 𝓤) (W : Given
         assigns ! (of-opd ! (load ! (from ! (stop !)) (look ! 17 refl))) (from ! (stop !)) (init ! 21 refl (tt, record { fits = fits })) $
         returns ! (look ! 21 refl) $ forget ! 17 refl $ forget ! 19 refl $ forget ! 21 refl $
         move ! (21 ∷ 22 ∷ []) $ free1 ! $ move ! (19 ∷ 20 ∷ []) $ free1 ! $ move ! (17 ∷ 18 ∷ []) $ free1 ! $ move ! (15 ∷ 16 ∷ []) $ free1 ! $
-        move ! (13 ∷ 14 ∷ []) $ free1 ! $ move ! (11 ∷ 12 ∷ []) $ free1 ! $ move ! (9 ∷ 10 ∷ []) $ free1 ! $ move ! (7 ∷ 8 ∷ []) $ free1 ! $ move ! (5 ∷ 6 ∷ []) $ free1 ! $ move ! (3 ∷ 4 ∷ []) $ free1 ! $ free0 ! $
+        move ! (13 ∷ 14 ∷ []) $ free1 ! $ move ! (11 ∷ 12 ∷ []) $ free1 ! $ move ! (9 ∷ 10 ∷ []) $ free1 ! $ move ! (7 ∷ 8 ∷ []) $ free1 ! $ move ! (5 ∷ 6 ∷ []) $ free1 ! $ move ! (3 ∷ 4 ∷ []) $
+        free1 ! $ free0 ! $
         keep ! (0 ∷ 2 ∷ []) $ by ! (exits m e fits)
 
     -- a turn's postcondition: it ends nearer to the count, or the loop is left and the last statements run
@@ -224,7 +228,8 @@ module _ {M : Type 1} (𝓤 : URA M) (H : Heap 𝓤) (A : Atoms 𝓤) (W : Given
         assigns ! (bin ! (load ! (from ! (stop !)) (look ! 15 refl)) (load ! (from ! (stop !)) (look ! 11 refl)) tt) (from ! (stop !)) (init ! 9 refl (tt, tt)) $
         first ! $ branches ! (load ! (from ! (stop !)) (look ! 9 refl))
         (λ less. skips ! $ exec ! C Λ En more (anyQ (Turned x)) $
-        assigns ! (bin ! (load ! (from ! (stop !)) (look ! 15 refl)) (lit ! tt) (record { fits = near n (x .at) (g .1) (ltb→lt (x .at) n less) })) (from ! (stop !)) (store ! 11 refl (tt, record { fits = near n (x .at) (g .1) (ltb→lt (x .at) n less) })) $
+        assigns ! (bin ! (load ! (from ! (stop !)) (look ! 15 refl)) (lit ! tt) (record { fits = near n (x .at) (g .1) (ltb→lt (x .at) n less) })) (from ! (stop !))
+        (store ! 11 refl (tt, record { fits = near n (x .at) (g .1) (ltb→lt (x .at) n less) })) $
         assigns ! (bin ! (load ! (from ! (fld ! refl (stop !))) (look-in ! 19 (sub ! 0 refl (whole !)))) (load ! (from ! (stop !)) (look ! 11 refl)) tt) (from ! (stop !)) (init ! 7 refl (tt, tt)) $
         rewrite ! 7 (λ (p : ℕ). ‵ (fat fullShare tyPtr l₇ 0 (vptr b p))) (sym (place-is 12 o (x .at))) refl $
         -- the element is read: the slice is looked into, and shut again
@@ -232,26 +237,34 @@ module _ {M : Type 1} (𝓤 : URA M) (H : Heap 𝓤) (A : Atoms 𝓤) (W : Given
         looks-slice ! tt T.the-row (Is T.the-row) (shows 𝓤 H A T.the-row) (LL.vals T.the-type T′.the-laws) (LL.tells T.the-type T′.the-laws) (LL.copy T.the-type T′.the-copy 𝓤 H A W) ys b o (λ q′.
         elem-out ! T.the-row (Is T.the-row) (shows 𝓤 H A T.the-row) (LL.vals T.the-type T′.the-laws) (LL.tells T.the-type T′.the-laws) q′ ys (x .at) noTask b o (ltb→lt (x .at) n less) (λ is.
         -- [tasks[i]; what it owns; the others; what shuts; the fractured borrow; Own; _9; …]: local k stands at 6 + 2 · (9 − k)
-        assigns ! (of-opd ! (load ! (from ! (hop ! (look ! 10 refl) (stop !))) (look-raw ! 0 refl))) (from ! (stop !)) (init ! 8 refl (LL.lawful T.the-type T′.the-laws 𝓤 H A W .typed (t x) (mach x ∷ []) is .0)) $
+        assigns ! (of-opd ! (load ! (from ! (hop ! (look ! 10 refl) (stop !))) (look-raw ! 0 refl))) (from ! (stop !))
+        (init ! 8 refl (LL.lawful T.the-type T′.the-laws 𝓤 H A W .typed (t x) (mach x ∷ []) is .0)) $
         assigns ! (of-opd ! (load ! (from ! (stop !)) (look ! 8 refl))) (from ! (stop !)) (init ! 16 refl (LL.lawful T.the-type T′.the-laws 𝓤 H A W .typed (t x) (mach x ∷ []) is .0)) $
         elem-back ! T.the-row q′ ys (x .at) noTask (mach x ∷ []) b o (ltb→lt (x .at) n less) $ shuts-slice ! tt T.the-row q′ ys b o $
         -- [the token; the fractured borrow; Own; _9; …]: the call, with what it asks in front
-        use0 W (raw (Shares 𝓤 H A mem run .pre (to-share 𝓤 H A mem run (t x .cycles) (t x .period)))) (goes-share 𝓤 H A mem run W (t x .cycles) (t x .period) (cycles-fit (t x) is) (period-fits (t x) is)) $
+        use0 W (raw (Shares 𝓤 H A mem run .pre (to-share 𝓤 H A mem run (t x .cycles) (t x .period))))
+        (goes-share 𝓤 H A mem run W (t x .cycles) (t x .period) (cycles-fit (t x) is) (period-fits (t x) is)) $
         calls-at ! (fmOf 𝓤 H (W .laws) 𝓣) (Shares 𝓤 H A mem run) known (to-share 𝓤 H A mem run (t x .cycles) (t x .period))
-        (and-then ! (load ! (from ! (fld ! refl (stop !))) (look-in ! 14 (sub ! 1 refl (whole !)))) (and-then ! (load ! (from ! (fld ! refl (stop !))) (look-in ! 14 (sub ! 2 refl (whole !)))) (no-more !))) (λ u.
-        use1 W (later (some (λ (r : ℕ). (‵ ftrue ⊛ ‵ (u64 .own r (u ∷ []))) ⊛ raw (ensured 𝓤 H A share.ended (share.clauses 𝓤 H A mem run) tt (t x .cycles, (t x .period, tt)) tt r)))) (id⊢ 𝓤 _) $ await ! tt $ pick ! (λ r.
-        split ! $ move ! (1 ∷ []) $ use1 W (raw (fact 𝓤 (r ≡ shareOf (t x .cycles) (t x .period)))) (share-said 𝓤 H A mem run (t x .cycles) (t x .period) r) $ heard ! (r ≡ shareOf (t x .cycles) (t x .period)) (λ e. split ! $ drop ! $
+        (and-then ! (load ! (from ! (fld ! refl (stop !))) (look-in ! 14 (sub ! 1 refl (whole !))))
+        (and-then ! (load ! (from ! (fld ! refl (stop !))) (look-in ! 14 (sub ! 2 refl (whole !)))) (no-more !))) (λ u.
+        use1 W (later (some (λ (r : ℕ). (‵ ftrue ⊛ ‵ (u64 .own r (u ∷ []))) ⊛ raw (ensured 𝓤 H A share.ended (share.clauses 𝓤 H A mem run) tt (t x .cycles, (t x .period, tt)) tt r))))
+        (id⊢ 𝓤 _) $ await ! tt $ pick ! (λ r.
+        split ! $ move ! (1 ∷ []) $ use1 W (raw (fact 𝓤 (r ≡ shareOf (t x .cycles) (t x .period)))) (share-said 𝓤 H A mem run (t x .cycles) (t x .period) r) $
+        heard ! (r ≡ shareOf (t x .cycles) (t x .period)) (λ e. split ! $ drop ! $
         facts ! u64 (Is u64) (shows 𝓤 H A u64) r (u ∷ []) (λ ru.
         land ! (from ! (stop !)) (init ! 3 refl (uint-lawful 𝓤 H A W w64 .typed r (u ∷ []) ru .0)) $
         rewrite ! 3 (λ (v : Val). ‵ (fat fullShare word l₉ 0 v)) (ap only (ru .0)) refl $
-        assigns ! (bin ! (load ! (from ! (stop !)) (look ! 17 refl)) (load ! (from ! (stop !)) (look ! 3 refl)) (record { fits = sum-fits ys (then ys x less is r e) few })) (from ! (stop !)) (store ! 17 refl (tt, record { fits = sum-fits ys (then ys x less is r e) few })) $
-        assigns-last ! (bin ! (load ! (from ! (stop !)) (look ! 15 refl)) (lit ! tt) (record { fits = one-on n (x .at) (g .0) (ltb→lt (x .at) n less) })) (from ! (stop !)) (store ! 15 refl (tt, record { fits = one-on n (x .at) (g .0) (ltb→lt (x .at) n less) })) $
+        assigns ! (bin ! (load ! (from ! (stop !)) (look ! 17 refl)) (load ! (from ! (stop !)) (look ! 3 refl)) (record { fits = sum-fits ys (then ys x less is r e) few }))
+        (from ! (stop !)) (store ! 17 refl (tt, record { fits = sum-fits ys (then ys x less is r e) few })) $
+        assigns-last ! (bin ! (load ! (from ! (stop !)) (look ! 15 refl)) (lit ! tt) (record { fits = one-on n (x .at) (g .0) (ltb→lt (x .at) n less) })) (from ! (stop !))
+        (store ! 15 refl (tt, record { fits = one-on n (x .at) (g .0) (ltb→lt (x .at) n less) })) $
         forget ! 3 refl $ forget ! 5 refl $ forget ! 7 refl $ forget ! 9 refl $ forget ! 11 refl $ forget ! 13 refl $
         again ! Nearer At x (then ys x less is r e) (closer n (x .at) (ltb→lt (x .at) n less)))))))))
         (λ stop-here. jumps ! $ exec ! C Λ En last (atRet En Post) $ forget ! 9 refl $ forget ! 11 refl $ forget ! 15 refl $
         ends (x .sum) (over ys x (nltb→le (x .at) n stop-here)) (sum-fits ys x few))
 
-  walk : (𝓣 : Tables 𝓤 H) → Triple 𝓤 (𝓣 .C #load·share) (Shares 𝓤 H A mem run) → Room T.the-row n → n ≤ 16 → ent 𝓤 (onEntry 𝓤 H A f.signature (κ, tt) (q, tt) (s, tt) at) (WpFn 𝓤 H (𝓣 .C) (𝓣 .Λ) code.function (sv ∷ []) Post)
+  walk : (𝓣 : Tables 𝓤 H) → Triple 𝓤 (𝓣 .C #load·share) (Shares 𝓤 H A mem run) → Room T.the-row n → n ≤ 16 → ent 𝓤 (onEntry 𝓤 H A f.signature (κ, tt) (q, tt) (s, tt) at)
+      (WpFn 𝓤 H (𝓣 .C) (𝓣 .Λ) code.function (sv ∷ []) Post)
   walk 𝓣 known g few =
       qed W ((‵ (flft κ q) ⊛ ‵ ftrue) ∷ ‵ (owns (ShrSlice (named 0) κ T.the-row ∷ []) (s, tt) at) ∷ []) ∵ enter ! (𝓣 .C) (𝓣 .Λ) code.function (sv ∷ []) _ $
       alloc1 ! (λ l₀. alloc1 ! (λ l₁. alloc1 ! (λ l₂. alloc1 ! (λ l₃. alloc1 ! (λ l₄. alloc1 ! (λ l₅. alloc1 ! (λ l₆. alloc1 ! (λ l₇. alloc1 ! (λ l₈. alloc1 ! (λ l₉. alloc0 ! $ params1 ! $
@@ -265,13 +278,15 @@ module _ {M : Type 1} (𝓤 : URA M) (H : Heap 𝓤) (A : Atoms 𝓤) (W : Given
       first ! $ blocks ! $
       loops ! 𝓣 Nearer Nearer-wf (At 𝓣 known g few l₀ l₁ l₂ l₃ l₄ l₅ l₆ l₇ l₈ l₉) (turns 𝓣 known g few l₀ l₁ l₂ l₃ l₄ l₅ l₆ l₇ l₈ l₉) (start ys)))))))))))
 
-module _ {M : Type 1} (𝓤 : URA M) (H : Heap 𝓤) (A : Atoms 𝓤) (W : Given 𝓤 H A) (mem : Memory → SProp 𝓤) (run : Routine → Fun 𝓤) (𝓣 : Tables 𝓤 H) (known : Triple 𝓤 (𝓣 .C #load·share) (Shares 𝓤 H A mem run)) where
+module _ {M : Type 1} (𝓤 : URA M) (H : Heap 𝓤) (A : Atoms 𝓤) (W : Given 𝓤 H A) (mem : Memory → SProp 𝓤) (run : Routine → Fun 𝓤) (𝓣 : Tables 𝓤 H)
+    (known : Triple 𝓤 (𝓣 .C #load·share) (Shares 𝓤 H A mem run)) where
   total-walks : Walks 𝓤 H A f.ended stayed (WpFn 𝓤 H (𝓣 .C) (𝓣 .Λ) code.function) (f.clauses 𝓤 H A mem run)
   total-walks = walked 𝓤 H A f.ended stayed (f.clauses 𝓤 H A mem run) (WpFn 𝓤 H (𝓣 .C) (𝓣 .Λ) code.function) (λ κs. (slice-vals, tt)) (λ κs. (shr-slice-tells (named 0) (κs .0) T.the-row, tt))
       (λ κs qs bounds a g are. needs 𝓤 _ _ (walk 𝓤 H A W mem run (κs .0) (qs .0) (a .0 .ptr .0) (a .0 .ptr .1) (a .0 .name) (a .0 .now) 𝓣 known (are .0 .0 .1)))
 
   total-meets : Meets 𝓤 H A f.signature (WpFn 𝓤 H (𝓣 .C) (𝓣 .Λ) code.function) (f.spec 𝓤 H A mem run)
-  total-meets = walk-meets 𝓤 H A f.ended stayed W (goes-none-slice 𝓤 H A W 1 (0 ∷ []) tt (plain (λ _. T.the-row)) yes, tt) (f.clauses 𝓤 H A mem run) (WpFn 𝓤 H (𝓣 .C) (𝓣 .Λ) code.function) (WpFn-mono 𝓤 H (W .laws) 𝓣 code.function) total-walks
+  total-meets = walk-meets 𝓤 H A f.ended stayed W (goes-none-slice 𝓤 H A W 1 (0 ∷ []) tt (plain (λ _. T.the-row)) yes, tt) (f.clauses 𝓤 H A mem run) (WpFn 𝓤 H (𝓣 .C) (𝓣 .Λ) code.function)
+      (WpFn-mono 𝓤 H (W .laws) 𝓣 code.function) total-walks
 
 pub total-spec : {M : Type 1} → stated.statement M
 unfolding code.routine tablesOf

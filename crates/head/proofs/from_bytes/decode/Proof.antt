@@ -16,28 +16,37 @@ blank-head-requires c κs = search needs
 
 returns : tie.Need-returns
 returns c =
-    let b = c .before .before .before .before .args .buffer .now in
-    let refused : headRefusal b ≡ 0 → ⊥ = λ e. c .before .if1 .taken (c .before .before .refusal .ensures ∙ e) in
+    let then1 : tie.Then1 = search in
+    let tested : tie.After-refusal = search in
+    let start : tie.Start = search in
+    let b = start .args .buffer .now in
+    let refused : headRefusal b ≡ 0 → ⊥ = λ e. then1 .if1 .taken (tested .refusal .ensures ∙ e) in
     record {
-      refusal = c .before .before .refusal .ensures;
+      refusal = tested .refusal .ensures;
       head = rw (ne-eqb (headRefusal b) 0 refused) (c .blank-head .ensures);
       encodable = λ e. absurd (refused e);
     }
 
 read-requires : tie.Need-read-requires
 read-requires c κs =
-    let b = c .before .before .before .args .buffer .now in
-    let p = passed b (sym (c .before .refusal .ensures) ∙ c .if1 .left) in
+    let tested : tie.After-refusal = search in
+    let start : tie.Start = search in
+    let b = start .args .buffer .now in
+    let p = passed b (sym (tested .refusal .ensures) ∙ c .if1 .left) in
     (p .length, p .count)
 
 returns-2 : tie.Need-returns-2
 returns-2 c =
-    let b = c .before .before .before .before .args .buffer .now in
-    let e : headRefusal b ≡ 0 = sym (c .before .before .refusal .ensures) ∙ c .before .if1 .left in
+    let else1 : tie.Else1 = search in
+    let tested : tie.After-refusal = search in
+    let known : tie.After-shared-slice-known = search in
+    let start : tie.Start = search in
+    let b = start .args .buffer .now in
+    let e : headRefusal b ≡ 0 = sym (tested .refusal .ensures) ∙ else1 .if1 .left in
     record {
       refusal = sym e;
       head = rw (eq-eqb (headRefusal b) 0 e) (c .read .ensures);
-      encodable = λ e. rw (c .read .ensures) (decode-encodable b (λ i. c .before .before .before .shared-slice-known .given i .fits) e);
+      encodable = λ e. rw (c .read .ensures) (decode-encodable b (λ i. known .shared-slice-known .given i .fits) e);
     }
 
 pub decode-spec : {M : Type 1} → statement M

@@ -30,7 +30,10 @@ shared-slice-read-t18 c = search needs
 
 returns : tie.Need-returns
 unfolding headOf
-returns c = rw (c .before .before .before .before .before .before .before .read .ensures, c .before .before .before .before .before .before .read2 .ensures)
+returns c =
+    let tasks : tie.After-read2 = search in
+    let registers : tie.After-read = search in
+    rw (registers .read .ensures, tasks .read2 .ensures)
 
 pub read-spec : {M : Type 1} → statement M
 read-spec =

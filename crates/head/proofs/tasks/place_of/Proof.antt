@@ -6,13 +6,14 @@ use borrow.Author.Tests.{eq-eqb, ne-eqb}
 use native.Mathlib.Omega.{arith}
 use native.Mathlib.Numerals.{add-one}
 use lib.ListN.{length, take, drop}
+use Rattle.layout.specs.Layout.{mostTasks}
 use Rattle.head.specs.tasks.{placeOf}
 use Rattle.head.proofs.tasks.Places.{place-found, place-next, place-none}
 use Rattle.head.proofs.tasks.place_of.Statement.{statement}
 use Rattle.head.proofs.tasks.place_of.Tie as tie
 
 abbrev Inv-loop : tie.InvT-loop
-Inv-loop count id tasks end i₀ i = (i ≤ end) × ((length tasks ≡ 16) × (i + placeOf id (drop i (take end tasks)) ≡ placeOf id (take end tasks)))
+Inv-loop count id tasks end i₀ i = (i ≤ end) × ((length tasks ≡ mostTasks) × (i + placeOf id (drop i (take end tasks)) ≡ placeOf id (take end tasks)))
 
 abbrev μ-loop : tie.MeasureT-loop
 μ-loop count id tasks end i₀ i = end - i
@@ -28,10 +29,10 @@ array-copy-out-task c = search needs
 
 returns : tie.Need-returns Inv-loop μ-loop
 returns c =
-    let start = c .before .before .before .before .before in
-    let loop = c .before .before .before .before .loop in
-    let found = place-found (start .args .t1) (start .args .count) (loop .i) (start .args .id) (omega (arith, start .pre)) (omega arith) (eq-eqb _ _ (c .if1 .taken)) in
-    omega (arith, found, loop .inv .1 .1)
+    let turn : tie.At-loop Inv-loop μ-loop = search in
+    let start : tie.Start Inv-loop μ-loop = search in
+    let found = place-found (start .args .t1) (start .args .count) (turn .loop .i) (start .args .id) (omega (arith, start .pre)) (omega arith) (eq-eqb _ _ (c .if1 .taken)) in
+    omega (arith, found, turn .loop .inv .1 .1)
 
 add-i : tie.Need-add-i Inv-loop μ-loop
 add-i c = search needs
@@ -41,17 +42,17 @@ loop-less c = search needs
 
 loop-again : tie.Need-loop-again Inv-loop μ-loop
 loop-again c =
-    let start = c .before .before .before .before .before in
-    let loop = c .before .before .before .before .loop in
-    let step = place-next (start .args .t1) (start .args .count) (loop .i) (start .args .id) (omega (arith, start .pre)) (omega arith) (ne-eqb _ _ (c .if1 .left)) in
-    (omega arith, (loop .inv .1 .0, rw add-one (omega (arith, step, loop .inv .1 .1))))
+    let turn : tie.At-loop Inv-loop μ-loop = search in
+    let start : tie.Start Inv-loop μ-loop = search in
+    let step = place-next (start .args .t1) (start .args .count) (turn .loop .i) (start .args .id) (omega (arith, start .pre)) (omega arith) (ne-eqb _ _ (c .if1 .left)) in
+    (omega arith, (turn .loop .inv .1 .0, rw add-one (omega (arith, step, turn .loop .inv .1 .1))))
 
 returns-2 : tie.Need-returns-2 Inv-loop μ-loop
 returns-2 c =
-    let start = c .before .before in
-    let loop = c .before .loop in
-    let none = place-none (start .args .t1) (start .args .count) (loop .i) (start .args .id) (omega (arith, start .pre)) (omega arith) in
-    omega (arith, none, loop .inv .1 .1)
+    let turn : tie.At-loop Inv-loop μ-loop = search in
+    let start : tie.Start Inv-loop μ-loop = search in
+    let none = place-none (start .args .t1) (start .args .count) (turn .loop .i) (start .args .id) (omega (arith, start .pre)) (omega arith) in
+    omega (arith, none, turn .loop .inv .1 .1)
 
 pub place-of-spec : {M : Type 1} → statement M
 place-of-spec =

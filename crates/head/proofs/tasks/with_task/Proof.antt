@@ -18,7 +18,7 @@ add-head c = search needs
 
 returns : tie.Need-returns
 returns c =
-    let start = c .before .before .before in
+    let start : tie.Start = search in
     rw (← more-places (start .args .head) (start .pre .0) (start .args .task) (start .pre .1), ← more-count (start .args .head) (start .pre .0) (start .args .task))
 
 pub with-task-spec : {M : Type 1} → statement M

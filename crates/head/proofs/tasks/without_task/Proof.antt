@@ -8,25 +8,29 @@ use Rattle.head.proofs.tasks.without_task.Statement.{statement}
 use Rattle.head.proofs.tasks.without_task.Tie as tie
 
 place-of-requires : tie.Need-place-of-requires
-place-of-requires c κs = c .before .pre .0 .room
+place-of-requires c κs =
+    let start : tie.Start = search in
+    start .pre .0 .room
 
 moved-up-requires : tie.Need-moved-up-requires
 moved-up-requires c κs =
-    let start = c .before .before in
+    let start : tie.Start = search in
     omega (arith, c .place-of .ensures, less-within (start .args .head) (start .pre .0) (start .args .id) (start .pre .1), start .pre .0 .room)
 
 sub-head : tie.Need-sub-head
 sub-head c =
-    let start = c .before .before .before .before in
+    let start : tie.Start = search in
     omega (arith, less-within (start .args .head) (start .pre .0) (start .args .id) (start .pre .1))
 
 returns : tie.Need-returns
 returns c =
-    let start = c .before .before .before .before in
+    let moved : tie.After-moved-up = search in
+    let found : tie.After-place-of = search in
+    let start : tie.Start = search in
     let h = start .args .head in
     let id = start .args .id in
-    let tasks : c .before .moved-up .result ≡ withoutTask id h .tasks =
-    c .before .moved-up .ensures ∙ (ap (λ n. movedUp n (h .tasks)) (c .before .before .place-of .ensures) ∙ less-places h (start .pre .0) id (start .pre .1)) in
+    let tasks : moved .moved-up .result ≡ withoutTask id h .tasks =
+    moved .moved-up .ensures ∙ (ap (λ n. movedUp n (h .tasks)) (found .place-of .ensures) ∙ less-places h (start .pre .0) id (start .pre .1)) in
     rw (tasks, less-count h (start .pre .0) id (start .pre .1))
 
 pub without-task-spec : {M : Type 1} → statement M

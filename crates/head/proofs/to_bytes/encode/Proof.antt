@@ -23,11 +23,12 @@ same-length c = search needs
 
 returns : tie.Need-returns
 returns c =
-    let state = c .before .before .before .before .before .before in
-    let registers = state .before .before .before .before in
-    let front = registers .before .before .before .before in
-    let start = front .before .before .before .before .before in
-    c .before .before .write2 .ensures
+    let tasks : tie.After-write2 = search in
+    let state : tie.After-write-state = search in
+    let registers : tie.After-write = search in
+    let front : tie.After-write-front = search in
+    let start : tie.Start = search in
+    tasks .write2 .ensures
     ∙ rw (state .write-state .ensures, registers .write .ensures, front .write-front .ensures)
     (record-laid (start .args .head) (search needs) (omega (arith, start .pre)) (start .args .buffer .now) (omega (arith, start .pre)))
 

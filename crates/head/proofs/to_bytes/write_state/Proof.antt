@@ -41,8 +41,10 @@ same-length c = search needs
 returns : tie.Need-returns
 unfolding stateOf
 returns c =
-    let start = c .before .before .before .before in
-    rw (c .before .before .flag .ensures, c .before .flag2 .ensures, c .flag3 .ensures)
+    let second : tie.After-flag2 = search in
+    let first : tie.After-flag = search in
+    let start : tie.Start = search in
+    rw (first .flag .ensures, second .flag2 .ensures, c .flag3 .ensures)
     (laid-sets hxt48ReadyAt (stateOf (start .args .head)) (start .args .buffer .now) (omega arith))
 
 pub write-state-spec : {M : Type 1} → statement M

@@ -18,13 +18,18 @@ refused-requires : tie.Need-refused-requires
 refused-requires c κs = search needs
 
 returns : tie.Need-returns
-returns c = c .refused .ensures ∙ refuses _ 1 (λ z. omega arith) (not-nine-each _ (ne-eqb _ _ (c .before .if1 .taken)))
+returns c =
+    let then1 : tie.Then1 = search in
+    c .refused .ensures ∙ refuses _ 1 (λ z. omega arith) (not-nine-each _ (ne-eqb _ _ (then1 .if1 .taken)))
 
 refused-requires-2 : tie.Need-refused-requires-2
 refused-requires-2 c κs = search needs
 
 returns-2 : tie.Need-returns-2
-returns-2 c = c .refused2 .ensures ∙ refuses _ 41 (λ z. omega arith) (too-many _ (eq-eqb _ _ (c .before .before .if1 .left)) (lt-ltb _ _ (c .before .if2 .taken)))
+returns-2 c =
+    let then2 : tie.Then2 = search in
+    let else1 : tie.Else1 = search in
+    c .refused2 .ensures ∙ refuses _ 41 (λ z. omega arith) (too-many _ (eq-eqb _ _ (else1 .if1 .left)) (lt-ltb _ _ (then2 .if2 .taken)))
 
 tasks-at-requires : tie.Need-tasks-at-requires
 tasks-at-requires c κs = search needs
@@ -41,9 +46,14 @@ refused-requires-3 c κs = search needs
 returns-3 : tie.Need-returns-3
 unfolding listed
 returns-3 c =
-    let b = c .before .before .before .before .before .before .before .before .args .bytes .now in
-    let fails : allOk (listed b) ≡ false = sym (c .before .before .all-ok .ensures) ∙ not-true _ (c .before .if3 .taken) in
-    c .refused3 .ensures ∙ refuses b 16 (λ z. omega arith) (one-wrong b (eq-eqb _ _ (c .before .before .before .before .before .before .if1 .left)) (le-ltb _ _ (c .before .before .before .before .before .if2 .left)) fails)
+    let then3 : tie.Then3 = search in
+    let tested : tie.After-all-ok = search in
+    let else2 : tie.Else2 = search in
+    let else1 : tie.Else1 = search in
+    let start : tie.Start = search in
+    let b = start .args .bytes .now in
+    let fails : allOk (listed b) ≡ false = sym (tested .all-ok .ensures) ∙ not-true _ (then3 .if3 .taken) in
+    c .refused3 .ensures ∙ refuses b 16 (λ z. omega arith) (one-wrong b (eq-eqb _ _ (else1 .if1 .left)) (le-ltb _ _ (else2 .if2 .left)) fails)
 
 distinct-requires : tie.Need-distinct-requires
 distinct-requires c κs = search needs
@@ -54,19 +64,34 @@ refused-requires-4 c κs = search needs
 returns-4 : tie.Need-returns-4
 unfolding listed
 returns-4 c =
-    let b = c .before .before .before .before .before .before .before .before .before .before .args .bytes .now in
-    let holds : allOk (listed b) ≡ true = sym (c .before .before .before .before .all-ok .ensures) ∙ not-false _ (c .before .before .before .if3 .left) in
-    let fails : distinct (listed b) ≡ false = sym (c .before .before .distinct .ensures) ∙ not-true _ (c .before .if4 .taken) in
-    c .refused4 .ensures ∙ refuses b 40 (λ z. omega arith) (two-alike b (eq-eqb _ _ (c .before .before .before .before .before .before .before .before .if1 .left)) (le-ltb _ _ (c .before .before .before .before .before .before .before .if2 .left)) holds fails)
+    let then4 : tie.Then4 = search in
+    let compared : tie.After-distinct = search in
+    let else3 : tie.Else3 = search in
+    let tested : tie.After-all-ok = search in
+    let else2 : tie.Else2 = search in
+    let else1 : tie.Else1 = search in
+    let start : tie.Start = search in
+    let b = start .args .bytes .now in
+    let holds : allOk (listed b) ≡ true = sym (tested .all-ok .ensures) ∙ not-false _ (else3 .if3 .left) in
+    let fails : distinct (listed b) ≡ false = sym (compared .distinct .ensures) ∙ not-true _ (then4 .if4 .taken) in
+    c .refused4 .ensures ∙ refuses b 40 (λ z. omega arith) (two-alike b (eq-eqb _ _ (else1 .if1 .left)) (le-ltb _ _ (else2 .if2 .left)) holds fails)
 
 returns-5 : tie.Need-returns-5
 unfolding listed
 returns-5 c =
-    let b = c .before .before .before .before .before .before .before .before .before .args .bytes .now in
-    let holds : allOk (listed b) ≡ true = sym (c .before .before .before .all-ok .ensures) ∙ not-false _ (c .before .before .if3 .left) in
-    let apart : distinct (listed b) ≡ true = sym (c .before .distinct .ensures) ∙ not-false _ (c .if4 .left) in
-    let load = c .before .before .before .before .load .ensures ∙ ap loadOf (ap (take (length b / listedSize)) (c .before .before .before .before .before .tasks-at .ensures) ∙ first-listed b) in
-    rw load (accepts b (none b (eq-eqb _ _ (c .before .before .before .before .before .before .before .if1 .left)) (le-ltb _ _ (c .before .before .before .before .before .before .if2 .left)) holds apart))
+    let compared : tie.After-distinct = search in
+    let else3 : tie.Else3 = search in
+    let tested : tie.After-all-ok = search in
+    let summed : tie.After-load = search in
+    let read : tie.After-tasks-at = search in
+    let else2 : tie.Else2 = search in
+    let else1 : tie.Else1 = search in
+    let start : tie.Start = search in
+    let b = start .args .bytes .now in
+    let holds : allOk (listed b) ≡ true = sym (tested .all-ok .ensures) ∙ not-false _ (else3 .if3 .left) in
+    let apart : distinct (listed b) ≡ true = sym (compared .distinct .ensures) ∙ not-false _ (c .if4 .left) in
+    let load = summed .load .ensures ∙ ap loadOf (ap (take (length b / listedSize)) (read .tasks-at .ensures) ∙ first-listed b) in
+    rw load (accepts b (none b (eq-eqb _ _ (else1 .if1 .left)) (le-ltb _ _ (else2 .if2 .left)) holds apart))
 
 pub load-check-spec : {M : Type 1} → statement M
 load-check-spec =

@@ -47,8 +47,11 @@ same-length c = search needs
 returns : tie.Need-returns
 unfolding wordBytes
 returns c =
-    rw (c .before .before .a .ensures, c .before .b .ensures, c .c .ensures, add-one, add-two)
-    (laid-sets (c .before .before .before .before .args .at) (wordBytes (c .before .before .before .before .args .word)) (c .before .before .before .before .args .buffer .now) (omega arith))
+    let middle : tie.After-b = search in
+    let high : tie.After-a = search in
+    let start : tie.Start = search in
+    rw (high .a .ensures, middle .b .ensures, c .c .ensures, add-one, add-two)
+    (laid-sets (start .args .at) (wordBytes (start .args .word)) (start .args .buffer .now) (omega arith))
 
 pub put-word-spec : {M : Type 1} → statement M
 put-word-spec =

@@ -45,16 +45,19 @@ loop-less c = search needs
 
 loop-again : tie.Need-loop-again Inv-loop μ-loop
 loop-again c =
-    let loop = c .before .before .loop in
-    let b = c .before .before .before .before .args .buffer .now in
-    (omega arith, (omega arith, (loop .inv .1 .1 .0, rw (c .word-at .ensures) (fill-from-one wordIn registerSize b 34 (loop .n) 0 (loop .regs) (loop .inv .0) (omega arith) (loop .inv .1 .1 .1)))))
+    let turn : tie.At-loop Inv-loop μ-loop = search in
+    let start : tie.Start Inv-loop μ-loop = search in
+    let b = start .args .buffer .now in
+    let step = fill-from-one wordIn registerSize b 34 (turn .loop .n) 0 (turn .loop .regs) (turn .loop .inv .0) (omega arith) (turn .loop .inv .1 .1 .1) in
+    (omega arith, (omega arith, (turn .loop .inv .1 .1 .0, rw (c .word-at .ensures) step)))
 
 returns : tie.Need-returns Inv-loop μ-loop
 unfolding registersIn
 returns c =
-    let loop = c .before .loop in
-    let all : loop .n ≡ 35 = omega arith in
-    (rw all at (loop .inv .1 .1 .1)) ∙ ap (λ (l : List ℕ). 0 ∷ l) (append-nil (items wordIn registerSize 34 (drop registerSize (c .before .before .before .args .buffer .now))))
+    let turn : tie.At-loop Inv-loop μ-loop = search in
+    let start : tie.Start Inv-loop μ-loop = search in
+    let all : turn .loop .n ≡ 35 = omega arith in
+    (rw all at (turn .loop .inv .1 .1 .1)) ∙ ap (λ (l : List ℕ). 0 ∷ l) (append-nil (items wordIn registerSize 34 (drop registerSize (start .args .buffer .now))))
 
 pub read-spec : {M : Type 1} → statement M
 read-spec =

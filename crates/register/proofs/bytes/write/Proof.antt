@@ -16,7 +16,10 @@ use Rattle.register.proofs.bytes.write.Tie as tie
 
 abbrev Inv-loop : tie.InvT-loop
 Inv-loop buffer₀ regs n₀ buffer n =
-    (1 ≤ n) × ((n ≤ 35) × ((length buffer₀ ≡ bufferBytes) × ((length regs ≡ 35) × ((length buffer ≡ bufferBytes) × (buffer ≡ laid registerSize (joined wordBytes (take (n - 1) (drop 1 regs))) buffer₀)))))
+    (1 ≤ n)
+    × ((n ≤ 35)
+    × ((length buffer₀ ≡ bufferBytes)
+    × ((length regs ≡ 35) × ((length buffer ≡ bufferBytes) × (buffer ≡ laid registerSize (joined wordBytes (take (n - 1) (drop 1 regs))) buffer₀)))))
 
 abbrev μ-loop : tie.MeasureT-loop
 μ-loop buffer₀ regs n₀ buffer n = 35 - n
@@ -45,26 +48,26 @@ loop-less c = search needs
 
 loop-again : tie.Need-loop-again Inv-loop μ-loop
 loop-again c =
-    let start = c .before .before .before .before .before .before .before in
-    let loop = c .before .before .before .before .before .loop in
+    let turn : tie.At-loop Inv-loop μ-loop = search in
+    let start : tie.Start Inv-loop μ-loop = search in
     let regs = start .args .t1 in
     let b = start .args .buffer .now in
     let call = c .before .before .put-word in
-    let turn = laid-from-one wordBytes registerSize word-length b regs (loop .n) 0 (loop .inv .0) (omega arith) (omega arith) in
-    let word = wordBytes (getD regs (loop .n) 0) in
-    let put = call .ensures ∙ ap (laid (registerSize * loop .n) word) (loop .inv .1 .1 .1 .1 .1) in
-    (omega arith, (omega arith, (loop .inv .1 .1 .0, (loop .inv .1 .1 .1 .0, (call .kept .0 ∙ loop .inv .1 .1 .1 .1 .0, put ∙ turn)))))
+    let step = laid-from-one wordBytes registerSize word-length b regs (turn .loop .n) 0 (turn .loop .inv .0) (omega arith) (omega arith) in
+    let word = wordBytes (getD regs (turn .loop .n) 0) in
+    let put = call .ensures ∙ ap (laid (registerSize * turn .loop .n) word) (turn .loop .inv .1 .1 .1 .1 .1) in
+    (omega arith, (omega arith, (turn .loop .inv .1 .1 .0, (turn .loop .inv .1 .1 .1 .0, (call .kept .0 ∙ turn .loop .inv .1 .1 .1 .1 .0, put ∙ step)))))
 
 same-length : tie.Need-same-length Inv-loop μ-loop
 same-length c = search needs
 
 returns : tie.Need-returns Inv-loop μ-loop
 returns c =
-    let start = c .before .before .before in
-    let loop = c .before .loop in
-    let all : loop .n ≡ 35 = omega arith in
+    let turn : tie.At-loop Inv-loop μ-loop = search in
+    let start : tie.Start Inv-loop μ-loop = search in
+    let all : turn .loop .n ≡ 35 = omega arith in
     let whole : take 34 (drop 1 (start .args .t1)) ≡ drop 1 (start .args .t1) = take-all 34 (drop 1 (start .args .t1)) (rw length-drop (omega arith)) in
-    rw (all, whole) at (loop .inv .1 .1 .1 .1 .1)
+    rw (all, whole) at (turn .loop .inv .1 .1 .1 .1 .1)
 
 pub write-spec : {M : Type 1} → statement M
 write-spec =

@@ -20,13 +20,21 @@ add-put-four-2 : tie.Need-add-put-four-2
 add-put-four-2 c = search needs
 
 put-four-requires-2 : tie.Need-put-four-requires-2
-put-four-requires-2 c κs = rw (c .before .before .before .put-four .kept .0, length-set) (omega arith)
+put-four-requires-2 c κs =
+    let cycles : tie.After-put-four = search in
+    rw (cycles .put-four .kept .0, length-set) (omega arith)
 
 same-length : tie.Need-same-length
-same-length c = c .before .before .put-four2 .kept .0 ∙ (c .before .before .before .before .before .before .put-four .kept .0 ∙ simp length-set)
+same-length c =
+    let period : tie.After-put-four2 = search in
+    let cycles : tie.After-put-four = search in
+    period .put-four2 .kept .0 ∙ (cycles .put-four .kept .0 ∙ simp length-set)
 
 returns : tie.Need-returns
-returns c = c .before .before .put-four2 .ensures ∙ (rw (c .before .before .before .before .before .before .put-four .ensures) (task-laid _ _ _ (omega arith)))
+returns c =
+    let period : tie.After-put-four2 = search in
+    let cycles : tie.After-put-four = search in
+    period .put-four2 .ensures ∙ (rw (cycles .put-four .ensures) (task-laid _ _ _ (omega arith)))
 
 pub put-task-spec : {M : Type 1} → statement M
 put-task-spec =

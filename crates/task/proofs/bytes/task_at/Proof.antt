@@ -21,9 +21,9 @@ shared-slice-read-t7 c = search needs
 
 returns : tie.Need-returns
 returns c =
+    let start : tie.Start = search in
     let period : tie.After-four-at2 = search in
     let cycles : tie.After-four-at = search in
-    let start : tie.Start = search in
     rw (cycles .four-at .ensures, period .four-at2 .ensures) (task-at (start .args .buffer .now) (start .args .at))
 
 pub task-at-spec : {M : Type 1} → statement M

@@ -48,24 +48,25 @@ loop-less c = search needs
 
 loop-again : tie.Need-loop-again Inv-loop μ-loop
 loop-again c =
-    let start = c .before .before .before .before .before .before .before .before in
-    let loop = c .before .before .before .before .before .before .loop in
+    let turn : tie.At-loop Inv-loop μ-loop = search in
+    let start : tie.Start Inv-loop μ-loop = search in
     let ts = start .args .t1 in
     let b = start .args .buffer .now in
     let call = c .before .before .put-task in
-    let turn = laid-item taskBytes taskSize task-length firstTask b ts (loop .i) noTask (omega (arith, start .pre)) (omega (arith, start .pre)) in
-    let task = taskBytes (getD ts (loop .i) noTask) in
-    let put = call .ensures ∙ ap (laid (firstTask + taskSize * loop .i) task) (loop .inv .1 .1 .1 .1) in
-    (omega arith, (loop .inv .1 .0, (loop .inv .1 .1 .0, (call .kept .0 ∙ loop .inv .1 .1 .1 .0, put ∙ turn))))
+    let step = laid-item taskBytes taskSize task-length firstTask b ts (turn .loop .i) noTask (omega (arith, start .pre)) (omega (arith, start .pre)) in
+    let task = taskBytes (getD ts (turn .loop .i) noTask) in
+    let put = call .ensures ∙ ap (laid (firstTask + taskSize * turn .loop .i) task) (turn .loop .inv .1 .1 .1 .1) in
+    (omega arith, (turn .loop .inv .1 .0, (turn .loop .inv .1 .1 .0, (call .kept .0 ∙ turn .loop .inv .1 .1 .1 .0, put ∙ step))))
 
 same-length : tie.Need-same-length Inv-loop μ-loop
 same-length c = search needs
 
 returns : tie.Need-returns Inv-loop μ-loop
 returns c =
-    let loop = c .before .loop in
-    let all : loop .i ≡ c .before .before .before .args .count = omega arith in
-    rw all at (loop .inv .1 .1 .1 .1)
+    let turn : tie.At-loop Inv-loop μ-loop = search in
+    let start : tie.Start Inv-loop μ-loop = search in
+    let all : turn .loop .i ≡ start .args .count = omega arith in
+    rw all at (turn .loop .inv .1 .1 .1 .1)
 
 pub write-spec : {M : Type 1} → statement M
 write-spec =

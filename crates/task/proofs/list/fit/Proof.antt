@@ -26,7 +26,9 @@ all-ok-requires c κs = search needs
 
 returns : tie.Need-returns
 unfolding tasksFit tasksIn
-returns c = simp (← (rw rest-whole at (c .before .all-ok .ensures)), not-true (c .before .all-ok .result) (c .if1 .taken))
+returns c =
+    let tested : tie.After-all-ok = search in
+    simp (← (rw rest-whole at (tested .all-ok .ensures)), not-true (tested .all-ok .result) (c .if1 .taken))
 
 distinct-requires : tie.Need-distinct-requires
 distinct-requires c κs = search needs
@@ -34,9 +36,11 @@ distinct-requires c κs = search needs
 returns-2 : tie.Need-returns-2
 unfolding tasksFit tasksIn
 returns-2 c =
+    let else1 : tie.Else1 = search in
+    let tested : tie.After-all-ok = search in
     simp (
-      ← (rw rest-whole at (c .before .before .all-ok .ensures)),
-      not-false (c .before .before .all-ok .result) (c .before .if1 .left),
+      ← (rw rest-whole at (tested .all-ok .ensures)),
+      not-false (tested .all-ok .result) (else1 .if1 .left),
       ← (rw rest-whole at (c .distinct .ensures)),
     )
 

@@ -7,13 +7,14 @@ use borrow.Author.Tests.{eq-eqb, ne-eqb}
 use native.Mathlib.Omega.{arith}
 use native.Mathlib.Numerals.{add-one}
 use lib.ListN.{length, getD, take, drop}
+use Rattle.layout.specs.Layout.{mostTasks}
 use Rattle.task.specs.Task.{noTask, hasId}
 use Rattle.task.proofs.Tests.{has-step, has-none}
 use Rattle.task.proofs.rules.has_id.Statement.{statement}
 use Rattle.task.proofs.rules.has_id.Tie as tie
 
 abbrev Inv-loop : tie.InvT-loop
-Inv-loop count id tasks end i₀ i = (i ≤ end) × ((length tasks ≡ 16) × (hasId id (drop i (take end tasks)) ≡ hasId id (take end tasks)))
+Inv-loop count id tasks end i₀ i = (i ≤ end) × ((length tasks ≡ mostTasks) × (hasId id (drop i (take end tasks)) ≡ hasId id (take end tasks)))
 
 abbrev μ-loop : tie.MeasureT-loop
 μ-loop count id tasks end i₀ i = end - i
@@ -29,12 +30,12 @@ array-copy-out-task c = search needs
 
 returns : tie.Need-returns Inv-loop μ-loop
 returns c =
-    let start = c .before .before .before .before .before in
-    let loop = c .before .before .before .before .loop in
+    let turn : tie.At-loop Inv-loop μ-loop = search in
+    let start : tie.Start Inv-loop μ-loop = search in
     let ts = start .args .t1 in
     let id = start .args .id in
-    let found = eq-eqb (getD ts (loop .i) noTask .id) id (c .if1 .taken) in
-    sym (sym (loop .inv .1 .1) ∙ (has-step ts (start .args .count) (loop .i) (omega (arith, start .pre)) (omega arith) id ∙ rw found))
+    let found = eq-eqb (getD ts (turn .loop .i) noTask .id) id (c .if1 .taken) in
+    sym (sym (turn .loop .inv .1 .1) ∙ (has-step ts (start .args .count) (turn .loop .i) (omega (arith, start .pre)) (omega arith) id ∙ rw found))
 
 add-i : tie.Need-add-i Inv-loop μ-loop
 add-i c = search needs
@@ -44,18 +45,18 @@ loop-less c = search needs
 
 loop-again : tie.Need-loop-again Inv-loop μ-loop
 loop-again c =
-    let start = c .before .before .before .before .before in
-    let loop = c .before .before .before .before .loop in
+    let turn : tie.At-loop Inv-loop μ-loop = search in
+    let start : tie.Start Inv-loop μ-loop = search in
     let ts = start .args .t1 in
     let id = start .args .id in
-    let step = rw (ne-eqb (getD ts (loop .i) noTask .id) id (c .if1 .left)) at (has-step ts (start .args .count) (loop .i) (omega (arith, start .pre)) (omega arith) id) in
-    (omega arith, (loop .inv .1 .0, rw add-one (sym step ∙ loop .inv .1 .1)))
+    let step = rw (ne-eqb (getD ts (turn .loop .i) noTask .id) id (c .if1 .left)) at (has-step ts (start .args .count) (turn .loop .i) (omega (arith, start .pre)) (omega arith) id) in
+    (omega arith, (turn .loop .inv .1 .0, rw add-one (sym step ∙ turn .loop .inv .1 .1)))
 
 returns-2 : tie.Need-returns-2 Inv-loop μ-loop
 returns-2 c =
-    let start = c .before .before in
-    let loop = c .before .loop in
-    sym (sym (loop .inv .1 .1) ∙ has-none (start .args .t1) (start .args .count) (loop .i) (omega (arith, start .pre)) (omega arith) (start .args .id))
+    let turn : tie.At-loop Inv-loop μ-loop = search in
+    let start : tie.Start Inv-loop μ-loop = search in
+    sym (sym (turn .loop .inv .1 .1) ∙ has-none (start .args .t1) (start .args .count) (turn .loop .i) (omega (arith, start .pre)) (omega arith) (start .args .id))
 
 pub has-id-spec : {M : Type 1} → statement M
 has-id-spec =

@@ -13,7 +13,9 @@ add-result c = search needs
 
 returns : tie.Need-returns
 unfolding wordOf
-returns c = simp (ne-eqb _ _ (c .before .if1 .taken))
+returns c =
+    let then1 : tie.Then1 = search in
+    simp (ne-eqb _ _ (then1 .if1 .taken))
 
 returns-2 : tie.Need-returns-2
 unfolding wordOf
