@@ -15,15 +15,16 @@ use Rattle.dvfs.specs.declared.hpsys.HpsysModeFound.the-variants.{Mode, OutOfRa
 use Rattle.dvfs.specs.Hpsys.{modeOf}
 use Rattle.journal.specs.Run.{Run, begin, going, halted, store, cycles, delay, poll, measure}
 use Rattle.head.specs.declared.Head.{Head}
+use Rattle.head.specs.Head.{withRegisters, withReady}
 use Rattle.lpsys_request.specs.modes.{dividerFor}
 use Rattle.lpsys_request.proofs.modes.Divider.{source-48}
-use Rattle.head.specs.from_bytes.Record.{bufferBytes, lengthFits, headRefusal, headOf, frontOf, stateOf, recordOf, written}
+use Rattle.head.specs.from_bytes.Record.{bufferBytes, blank, lengthFits, headRefusal, headOf, frontOf, stateOf, recordOf, written}
 use Rattle.record.specs.Items.{items, joined}
 use Rattle.register.specs.Word.{wordIn, wordBytes}
 use Rattle.register.specs.Codes.{largest}
 use Rattle.register.specs.bytes.{registersIn}
 use Rattle.task.specs.declared.Task.{Task}
-use Rattle.task.specs.Task.{noTask, taskOk, allOk, hasId, distinct}
+use Rattle.task.specs.Task.{taskOk, allOk, hasId, distinct}
 use Rattle.record.specs.four.{fourIn, fourBytes}
 use Rattle.task.specs.bytes.{taskIn, taskBytes, tasksIn, tasksFit, placesIn}
 use Rattle.load.specs.Load.{shareOf, loadOf}
@@ -99,17 +100,7 @@ lpsys-cases h = (rw (source-48 h), rw (source-48 h), rw (source-48 h), rw (sourc
 
 -- a head whose core runs on HXT48, which is ready
 abbrev onHxt48 : Head
-onHxt48 =
-    record {
-      regs = set (replicate 35 0) 1 1;
-      «hxt48_ready» = true;
-      «hrc48_ready» = false;
-      «lpsys_hxt48_ready» = false;
-      «boot_mode» = 0;
-      «wake_count» = 0;
-      tasks = replicate 16 noTask;
-      count = 0;
-    }
+onHxt48 = withReady true false false (withRegisters (set (replicate 35 0) 1 1) blank)
 
 -- the answers of `n` measurements, each ready at once and with the same counts
 abbrev counted : ℕ → ℕ → ℕ → List ℕ
@@ -133,22 +124,12 @@ calibration-cases :
     -- "160 done, 161 is 33."
     × (calibrated (counted 11 160 0) .stop ≡ 0)
     × (calibrated (counted 11 161 0) .stop ≡ 33)
-unfolding calibrateHrc48 calibrate search adjusted judged measurement nextTrim difference halted store delay measure poll going hclkOf sysOf divided
+unfolding blank calibrateHrc48 calibrate search adjusted judged measurement nextTrim difference halted store delay measure poll going hclkOf sysOf divided
 calibration-cases = (refl, refl, refl, refl, refl)
 
 -- a head record of a core at 240 MHz: DLL1 at stage 9, undivided
 abbrev at240 : Head
-at240 =
-    record {
-      regs = set (set (set (replicate 35 0) 1 3) 2 65536) 3 65545;
-      «hxt48_ready» = true;
-      «hrc48_ready» = true;
-      «lpsys_hxt48_ready» = false;
-      «boot_mode» = 0;
-      «wake_count» = 0;
-      tasks = replicate 16 noTask;
-      count = 0;
-    }
+at240 = withReady true true false (withRegisters (set (set (set (replicate 35 0) 1 3) 2 65536) 3 65545) blank)
 
 -- bookings with a period of 1,000 us, one after the other, of these cycles: what the last one leaves
 abbrev task : ℕ → ℕ → Task
@@ -169,5 +150,5 @@ task-cases :
     × (second .refusal ≡ 0)
     × (book (task 3 40000) (second .buffer) .refusal ≡ 0)
     × (book (task 3 64000) (second .buffer) .refusal ≡ 39)
-unfolding book performed firstOf headRefusal lengthFits isWithin largest tasksFit tasksIn items taskIn fourIn allOk taskOk distinct hasId headOf registersIn wordIn placesIn hclkOf sysOf dllReading dllHz divided written recordOf frontOf stateOf joined wordBytes taskBytes fourBytes loadOf shareOf
+unfolding blank book performed firstOf headRefusal lengthFits isWithin largest tasksFit tasksIn items taskIn fourIn allOk taskOk distinct hasId headOf registersIn wordIn placesIn hclkOf sysOf dllReading dllHz divided written recordOf frontOf stateOf joined wordBytes taskBytes fourBytes loadOf shareOf
 task-cases = (refl, refl, refl, refl)

@@ -21,12 +21,13 @@ use Rattle.register.specs.Word.{wordIn, wordBytes}
 use Rattle.register.specs.Codes.{largest}
 use Rattle.register.specs.bytes.{registersIn}
 use Rattle.task.specs.declared.Task.{Task}
-use Rattle.task.specs.Task.{noTask, taskOk, allOk, hasId, distinct}
+use Rattle.task.specs.Task.{taskOk, allOk, hasId, distinct}
 use Rattle.record.specs.four.{fourIn, fourBytes}
 use Rattle.task.specs.bytes.{taskIn, taskBytes, tasksIn, tasksFit, placesIn}
 use Rattle.load.specs.Load.{shareOf, loadOf}
 use Rattle.head.specs.declared.Head.{Head}
-use Rattle.head.specs.from_bytes.Record.{bufferBytes, lengthFits, headRefusal, headOf, frontOf, stateOf, recordOf, written}
+use Rattle.head.specs.Head.{withRegisters, withReady}
+use Rattle.head.specs.from_bytes.Record.{bufferBytes, blank, lengthFits, headRefusal, headOf, frontOf, stateOf, recordOf, written}
 use Rattle.clock_read.specs.Hpsys.{dllReading, sysOf, hclkOf}
 use Rattle.clock_read.specs.lpsys.{lpsysSysOf, lpsysHclkOf}
 use Rattle.journal.specs.Run.{going, store, delay, poll, wait}
@@ -56,17 +57,7 @@ use Rattle.claim.specs.Claim.{Call, changing, booking, releasing, reques
 
 -- a head at 48 MHz on D: the core on HXT48, D1's buck and ldo, LPSYS on HXT48 at 24 MHz
 abbrev head48 : Head
-head48 =
-    record {
-      regs = set (set (set (set (set (set (set (replicate 35 0) 1 1) 2 65536) 12 1) 15 10) 16 8) 25 1) 26 131072;
-      «hxt48_ready» = true;
-      «hrc48_ready» = false;
-      «lpsys_hxt48_ready» = false;
-      «boot_mode» = 0;
-      «wake_count» = 0;
-      tasks = replicate 16 noTask;
-      count = 0;
-    }
+head48 = withReady true false false (withRegisters (set (set (set (set (set (set (set (replicate 35 0) 1 1) 2 65536) 12 1) 15 10) 16 8) 25 1) 26 131072) blank)
 
 abbrev bytes48 : List ℕ
 bytes48 = written head48 (replicate bufferBytes 0)
@@ -83,7 +74,7 @@ answers b [] = []
 answers b (c ∷ cs) = perform c b .refusal ∷ answers (perform c b .buffer) cs
 
 fit-example : (headRefusal bytes48 ≡ 0) × (fits (headOf bytes48) ≡ true)
-unfolding headRefusal firstOf lengthFits isWithin largest tasksFit tasksIn items taskIn fourIn allOk taskOk distinct hasId headOf registersIn wordIn placesIn written recordOf frontOf stateOf joined wordBytes taskBytes fourBytes fits lit railLimit higher met vrefOf hclkOf sysOf dllReading dllHz divided lpsysHclkOf lpsysSysOf
+unfolding blank headRefusal firstOf lengthFits isWithin largest tasksFit tasksIn items taskIn fourIn allOk taskOk distinct hasId headOf registersIn wordIn placesIn written recordOf frontOf stateOf joined wordBytes taskBytes fourBytes fits lit railLimit higher met vrefOf hclkOf sysOf dllReading dllHz divided lpsysHclkOf lpsysSysOf
 fit-example = (refl, refl)
 
 -- 240 MHz by the default plan, two tasks, LPSYS at 48 MHz, a task released, and the core back at 48 MHz
@@ -91,7 +82,7 @@ done-example :
     answers bytes48
     (changing defaultRecord journal (0 ∷ 1 ∷ []) ∷ booking (task 1 120000) ∷ booking (task 2 80000) ∷ requesting 48 journal ∷ releasing 1 ∷ [])
     ≡ 0 ∷ 0 ∷ 0 ∷ 0 ∷ 0 ∷ []
-unfolding headRefusal firstOf lengthFits isWithin largest tasksFit tasksIn items taskIn fourIn allOk taskOk distinct hasId headOf registersIn wordIn placesIn written recordOf frontOf stateOf joined wordBytes taskBytes fourBytes fits lit railLimit higher met vrefOf hclkOf sysOf dllReading dllHz divided lpsysHclkOf lpsysSysOf verdict decoded recordRefusal coded settled planOf dllOf verdictOf planRefusal legal encoded coreOnAbsentDll1 coreOnDbl96 flashOnAbsentDll usbOnAbsentDll2 usbNot60 dll1CoreTooSlow hclkTooFast pclk1TooFast pclk2TooFast dll2TooFast usbHz sysHz hclkHz pclk1Hz pclk2Hz shifted targetOf usbDivider changeCall performed change peakOf highest modeAt modeOf raise leaveDll1 toHxt48 toPlanned backTo dividers configureDll setDll relocked dllOff dllOn hpbgOn vddpswOn d2sFirst s2dFirst s2dSecond sxModeVolt timing store going delay wait poll loadOf shareOf book release without lpsysRequest request setHdiv dividerFor presentMode requestMode lpsysModeOf lpsysD2sFirst lpsysS2dFirst lpsysS2dSecond
+unfolding blank headRefusal firstOf lengthFits isWithin largest tasksFit tasksIn items taskIn fourIn allOk taskOk distinct hasId headOf registersIn wordIn placesIn written recordOf frontOf stateOf joined wordBytes taskBytes fourBytes fits lit railLimit higher met vrefOf hclkOf sysOf dllReading dllHz divided lpsysHclkOf lpsysSysOf verdict decoded recordRefusal coded settled planOf dllOf verdictOf planRefusal legal encoded coreOnAbsentDll1 coreOnDbl96 flashOnAbsentDll usbOnAbsentDll2 usbNot60 dll1CoreTooSlow hclkTooFast pclk1TooFast pclk2TooFast dll2TooFast usbHz sysHz hclkHz pclk1Hz pclk2Hz shifted targetOf usbDivider changeCall performed change peakOf highest modeAt modeOf raise leaveDll1 toHxt48 toPlanned backTo dividers configureDll setDll relocked dllOff dllOn hpbgOn vddpswOn d2sFirst s2dFirst s2dSecond sxModeVolt timing store going delay wait poll loadOf shareOf book release without lpsysRequest request setHdiv dividerFor presentMode requestMode lpsysModeOf lpsysD2sFirst lpsysS2dFirst lpsysS2dSecond
 done-example = refl
 
 -- each refusal that such a list can meet, on one head: the head's 1 to 3, 34 and 37 are not among them
@@ -145,7 +136,7 @@ refused-example :
     ∷ changing defaultRecord journal (0 ∷ 0 ∷ [])
     ∷ [])
     ≡ 17 ∷ 18 ∷ 1 ∷ 2 ∷ 3 ∷ 4 ∷ 5 ∷ 6 ∷ 7 ∷ 8 ∷ 9 ∷ 10 ∷ 11 ∷ 12 ∷ 13 ∷ 14 ∷ 38 ∷ 17 ∷ 15 ∷ 15 ∷ 16 ∷ 39 ∷ 0 ∷ 40 ∷ 39 ∷ 42 ∷ 36 ∷ []
-unfolding headRefusal firstOf lengthFits isWithin largest tasksFit tasksIn items taskIn fourIn allOk taskOk distinct hasId headOf registersIn wordIn placesIn written recordOf frontOf stateOf joined wordBytes taskBytes fourBytes fits lit railLimit higher met vrefOf hclkOf sysOf dllReading dllHz divided lpsysHclkOf lpsysSysOf verdict decoded recordRefusal coded settled planOf dllOf verdictOf planRefusal legal encoded coreOnAbsentDll1 coreOnDbl96 flashOnAbsentDll usbOnAbsentDll2 usbNot60 dll1CoreTooSlow hclkTooFast pclk1TooFast pclk2TooFast dll2TooFast usbHz sysHz hclkHz pclk1Hz pclk2Hz shifted targetOf usbDivider changeCall performed change peakOf highest modeAt modeOf raise leaveDll1 toHxt48 toPlanned backTo dividers configureDll setDll relocked dllOff dllOn hpbgOn vddpswOn d2sFirst s2dFirst s2dSecond sxModeVolt timing store going delay wait poll loadOf shareOf book release without lpsysRequest request setHdiv dividerFor presentMode requestMode lpsysModeOf lpsysD2sFirst lpsysS2dFirst lpsysS2dSecond
+unfolding blank headRefusal firstOf lengthFits isWithin largest tasksFit tasksIn items taskIn fourIn allOk taskOk distinct hasId headOf registersIn wordIn placesIn written recordOf frontOf stateOf joined wordBytes taskBytes fourBytes fits lit railLimit higher met vrefOf hclkOf sysOf dllReading dllHz divided lpsysHclkOf lpsysSysOf verdict decoded recordRefusal coded settled planOf dllOf verdictOf planRefusal legal encoded coreOnAbsentDll1 coreOnDbl96 flashOnAbsentDll usbOnAbsentDll2 usbNot60 dll1CoreTooSlow hclkTooFast pclk1TooFast pclk2TooFast dll2TooFast usbHz sysHz hclkHz pclk1Hz pclk2Hz shifted targetOf usbDivider changeCall performed change peakOf highest modeAt modeOf raise leaveDll1 toHxt48 toPlanned backTo dividers configureDll setDll relocked dllOff dllOn hpbgOn vddpswOn d2sFirst s2dFirst s2dSecond sxModeVolt timing store going delay wait poll loadOf shareOf book release without lpsysRequest request setHdiv dividerFor presentMode requestMode lpsysModeOf lpsysD2sFirst lpsysS2dFirst lpsysS2dSecond
 refused-example = refl
 
 -- and 41, on a head with sixteen tasks
@@ -154,5 +145,5 @@ sixteen zero = []
 sixteen (suc n) = task (suc n) 1 ∷ sixteen n
 
 full-example : answers (written (holding (sixteen 16) head48) (replicate bufferBytes 0)) (booking (task 17 1) ∷ []) ≡ 41 ∷ []
-unfolding headRefusal firstOf lengthFits isWithin largest tasksFit tasksIn items taskIn fourIn allOk taskOk distinct hasId headOf registersIn wordIn placesIn written recordOf frontOf stateOf joined wordBytes taskBytes fourBytes fits lit railLimit higher met vrefOf hclkOf sysOf dllReading dllHz divided lpsysHclkOf lpsysSysOf verdict decoded recordRefusal coded settled planOf dllOf verdictOf planRefusal legal encoded coreOnAbsentDll1 coreOnDbl96 flashOnAbsentDll usbOnAbsentDll2 usbNot60 dll1CoreTooSlow hclkTooFast pclk1TooFast pclk2TooFast dll2TooFast usbHz sysHz hclkHz pclk1Hz pclk2Hz shifted targetOf usbDivider changeCall performed change peakOf highest modeAt modeOf raise leaveDll1 toHxt48 toPlanned backTo dividers configureDll setDll relocked dllOff dllOn hpbgOn vddpswOn d2sFirst s2dFirst s2dSecond sxModeVolt timing store going delay wait poll loadOf shareOf book release without lpsysRequest request setHdiv dividerFor presentMode requestMode lpsysModeOf lpsysD2sFirst lpsysS2dFirst lpsysS2dSecond
+unfolding blank headRefusal firstOf lengthFits isWithin largest tasksFit tasksIn items taskIn fourIn allOk taskOk distinct hasId headOf registersIn wordIn placesIn written recordOf frontOf stateOf joined wordBytes taskBytes fourBytes fits lit railLimit higher met vrefOf hclkOf sysOf dllReading dllHz divided lpsysHclkOf lpsysSysOf verdict decoded recordRefusal coded settled planOf dllOf verdictOf planRefusal legal encoded coreOnAbsentDll1 coreOnDbl96 flashOnAbsentDll usbOnAbsentDll2 usbNot60 dll1CoreTooSlow hclkTooFast pclk1TooFast pclk2TooFast dll2TooFast usbHz sysHz hclkHz pclk1Hz pclk2Hz shifted targetOf usbDivider changeCall performed change peakOf highest modeAt modeOf raise leaveDll1 toHxt48 toPlanned backTo dividers configureDll setDll relocked dllOff dllOn hpbgOn vddpswOn d2sFirst s2dFirst s2dSecond sxModeVolt timing store going delay wait poll loadOf shareOf book release without lpsysRequest request setHdiv dividerFor presentMode requestMode lpsysModeOf lpsysD2sFirst lpsysS2dFirst lpsysS2dSecond
 full-example = refl

@@ -1,7 +1,6 @@
 -- A head's record is of bytes. Assumes nothing.
 use Prim.Native.Nat.{ℕ, zero, suc, _+_, _*_, _/_, _%_, _≤_, _<_}
 use mathlib.Core.Path.{_≡_, refl, ap, sym, _∙_}
-use mathlib.Core.Bool.{Bool, true, false}
 use mathlib.Core.List.{List, [], _∷_, _++_}
 use native.Mathlib.Omega.{arith}
 use lib.ListN.{length, getD, take, drop, length-drop}
@@ -16,10 +15,10 @@ use Rattle.record.specs.four.{fourBytes}
 use Rattle.task.specs.bytes.{taskBytes}
 use Rattle.task.proofs.bytes.Laws.{bytes-drop}
 use Rattle.head.specs.declared.Head.{Head}
-use Rattle.register.specs.Word.{bit}
 use Rattle.head.specs.Head.{booked}
 use Rattle.head.specs.from_bytes.Record.{frontOf, stateOf, recordOf, written}
 use Rattle.head.specs.Encodable.{Encodable}
+use Rattle.head.proofs.Fields.{state-bytes}
 use Rattle.head.proofs.tasks.Holding.{booked-length}
 
 bytes-none : Bytes []
@@ -57,10 +56,6 @@ task-bytes : (t : Task) → InBytes t → Bytes (taskBytes t)
 unfolding taskBytes
 task-bytes t x = bytes-cons (t .id) (fourBytes (t .cycles) ++ fourBytes (t .period)) (x .id) (bytes-append (fourBytes (t .cycles)) (fourBytes (t .period)) (four-bytes (t .cycles)) (four-bytes (t .period)))
 
-bit-byte : (t : Bool) → bit t < 256
-bit-byte true = omega arith
-bit-byte false = omega arith
-
 module _ (h : Head) (ok : Encodable h) where
   front : Bytes (frontOf (h .count))
   unfolding frontOf
@@ -68,16 +63,6 @@ module _ (h : Head) (ok : Encodable h) where
   front (suc zero) = omega arith
   front (suc (suc zero)) = omega arith
   front (suc (suc (suc i))) = omega arith
-
-  state : Bytes (stateOf h)
-  unfolding stateOf
-  state zero = bit-byte (h .«hxt48_ready»)
-  state (suc zero) = bit-byte (h .«hrc48_ready»)
-  state (suc (suc zero)) = bit-byte (h .«lpsys_hxt48_ready»)
-  state (suc (suc (suc zero))) = ok .boot
-  state (suc (suc (suc (suc zero)))) = ok .wake
-  state (suc (suc (suc (suc (suc zero))))) = omega (arith, ok .room)
-  state (suc (suc (suc (suc (suc (suc i)))))) = omega arith
 
   words : Bytes (joined wordBytes (drop 1 (h .regs)))
   words =
@@ -94,5 +79,5 @@ module _ (h : Head) (ok : Encodable h) where
   written-bytes b bytes =
       bytes-append (recordOf h) (drop (length (recordOf h)) b)
       (bytes-append (frontOf (h .count)) (joined wordBytes (drop 1 (h .regs)) ++ (stateOf h ++ joined taskBytes (booked h))) front
-      (bytes-append (joined wordBytes (drop 1 (h .regs))) (stateOf h ++ joined taskBytes (booked h)) words (bytes-append (stateOf h) (joined taskBytes (booked h)) state tasks)))
+      (bytes-append (joined wordBytes (drop 1 (h .regs))) (stateOf h ++ joined taskBytes (booked h)) words (bytes-append (stateOf h) (joined taskBytes (booked h)) (state-bytes h ok) tasks)))
       (bytes-drop b (length (recordOf h)) bytes)

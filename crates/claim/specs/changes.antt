@@ -9,22 +9,13 @@ use Rattle.clock.specs.declared.MaybeDll.{MaybeDll}
 use Rattle.clock.specs.declared.MaybeDll.the-variants.{Absent, Present}
 use Rattle.plan.specs.declared.Plan.{Plan}
 use Rattle.head.specs.declared.Head.{Head}
+use Rattle.head.specs.Head.{withRegisters}
 use Rattle.fit.specs.Fit.{fits}
 use Rattle.journal.specs.Run.{Poll, hit, dry, poll}
 
 -- the head `h` with other registers: "A moment is the head a call got with the stores of its first entries .. put in"
 abbrev pub headWith : Head → List ℕ → Head
-headWith h regs =
-    record {
-      regs = regs;
-      «hxt48_ready» = h .«hxt48_ready»;
-      «hrc48_ready» = h .«hrc48_ready»;
-      «lpsys_hxt48_ready» = h .«lpsys_hxt48_ready»;
-      «boot_mode» = h .«boot_mode»;
-      «wake_count» = h .«wake_count»;
-      tasks = h .tasks;
-      count = h .count;
-    }
+headWith h regs = withRegisters regs h
 
 -- at a moment with these registers the head is fit: "HCLK, the clock the core runs on, reads and is at most the limit of the active supply
 -- rails, LPSYS runs at no more than 24 MHz while on its D supply, and no flash clock is taken from a DLL that is off"

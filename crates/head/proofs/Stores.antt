@@ -12,6 +12,7 @@ use Rattle.head.specs.declared.Head.{Head}
 use Rattle.register.specs.Codes.{fitsRegister}
 use Rattle.head.specs.Head.{stored}
 use Rattle.head.specs.Encodable.{Encodable}
+use Rattle.head.proofs.Fields.{with-registers-encodable}
 
 pub stored-same : (h : Head) (n v : ℕ) → n < length (h .regs) → getD (stored h n v .regs) n 0 ≡ v
 stored-same h n v l = getD-set-same (h .regs) n v 0 l
@@ -37,7 +38,7 @@ same-tasks-encodable e words codes boot wake tasks count = record {
 
 pub store-encodable : (h : Head) (n v : ℕ) → Encodable h → fitsRegister n v ≡ true → Encodable (stored h n v)
 store-encodable h n v e fits =
-    same-tasks-encodable e (length-set (h .regs) n v ∙ e .words) (λ k l. at k l (eqb k n) refl) (e .boot) (e .wake) refl refl
+    with-registers-encodable e (record { words = length-set (h .regs) n v ∙ e .words; codes = λ k l. at k l (eqb k n) refl })
   where
     at : (k : ℕ) → k < 35 → (t : Bool) → eqb k n ≡ t → fitsRegister k (getD (set (h .regs) n v) k 0) ≡ true
     at k l true q =

@@ -2,6 +2,5 @@ pub mod Passed
 pub mod Parts
 pub mod Decoding
 pub mod Encoding
-pub mod Blank
 pub mod Past
 pub mod Answers

@@ -8,21 +8,11 @@ use Rattle.task.specs.declared.Task.{Task}
 use Rattle.task.specs.Task.{noTask}
 use Rattle.task.specs.bytes.{placed}
 use Rattle.head.specs.declared.Head.{Head}
-use Rattle.head.specs.Head.{booked}
+use Rattle.head.specs.Head.{booked, withTasks}
 
 -- a head with the tasks `ts` booked, in that order; registers and flags as they were
 abbrev pub holding : List Task → Head → Head
-holding ts h =
-    record {
-      regs = h .regs;
-      «hxt48_ready» = h .«hxt48_ready»;
-      «hrc48_ready» = h .«hrc48_ready»;
-      «lpsys_hxt48_ready» = h .«lpsys_hxt48_ready»;
-      «boot_mode» = h .«boot_mode»;
-      «wake_count» = h .«wake_count»;
-      tasks = placed ts (length ts);
-      count = length ts;
-    }
+holding ts h = withTasks (placed ts (length ts)) (length ts) h
 
 -- "A booked task goes last"
 abbrev pub withTask : Task → Head → Head

@@ -12,6 +12,7 @@ use Rattle.time.specs.declared.Reading.{Reading}
 use Rattle.time.specs.declared.Reading.the-variants.{At, Unreadable}
 use Rattle.clock_read.specs.Hpsys.{hclkOf}
 use Rattle.head.specs.declared.Head.{Head}
+use Rattle.head.specs.Head.{stored}
 use Rattle.journal.specs.Run.{Run, Effect, begin, going, entry, wrote, headed, store, cycles, delayed, delay, Poll, hit, dry, poll, waited, wait, replayed}
 use Rattle.journal.proofs.Replay.{Replayed, replays-store, replays-delay, replays-wait}
 
@@ -47,16 +48,7 @@ module _ (P : List ℕ → Type 0) (l : List ℕ) where
   moments-store n v p q r m now = by (eqb (r .stop) 0) refl
     where
       stored-run : Run
-      stored-run = wrote (entry n v) (headed (record {
-        regs = set (r .head .regs) n v;
-        «hxt48_ready» = r .head .«hxt48_ready»;
-        «hrc48_ready» = r .head .«hrc48_ready»;
-        «lpsys_hxt48_ready» = r .head .«lpsys_hxt48_ready»;
-        «boot_mode» = r .head .«boot_mode»;
-        «wake_count» = r .head .«wake_count»;
-        tasks = r .head .tasks;
-        count = r .head .count;
-      }) r)
+      stored-run = wrote (entry n v) (headed (stored (r .head) n v) r)
 
       by : (t : Bool) → eqb (r .stop) 0 ≡ t → Moments P l (cond t stored-run r)
       by true e =

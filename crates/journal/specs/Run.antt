@@ -7,7 +7,7 @@ use lib.ListN.{length, drop, set}
 use Rattle.time.specs.declared.Reading.{Reading}
 use Rattle.time.specs.declared.Reading.the-variants.{At, Unreadable}
 use Rattle.head.specs.declared.Head.{Head}
-use Rattle.head.specs.Head.{stored}
+use Rattle.head.specs.Head.{withReady, stored}
 use Rattle.clock_read.specs.Hpsys.{hclkOf}
 
 -- the entries written so far, the head as it is now, the answers taken, and 0 or the refusal that ended the call
@@ -105,31 +105,13 @@ wait kind a = going (λ (r : Run). waited kind a (poll (drop (r .taken) a)) r)
 
 -- the HXT48 ready flag, and that of LPSYS, set to 1
 abbrev pub withHxt48 : Head → Head
-withHxt48 h = record {
-  regs = h .regs;
-  «hxt48_ready» = true;
-  «hrc48_ready» = h .«hrc48_ready»;
-  «lpsys_hxt48_ready» = h .«lpsys_hxt48_ready»;
-  «boot_mode» = h .«boot_mode»;
-  «wake_count» = h .«wake_count»;
-  tasks = h .tasks;
-  count = h .count;
-}
+withHxt48 h = withReady true (h .«hrc48_ready») (h .«lpsys_hxt48_ready») h
 
 abbrev pub hxt48On : Effect
 hxt48On r = headed (withHxt48 (r .head)) r
 
 abbrev pub withLpsysHxt48 : Head → Head
-withLpsysHxt48 h = record {
-  regs = h .regs;
-  «hxt48_ready» = h .«hxt48_ready»;
-  «hrc48_ready» = h .«hrc48_ready»;
-  «lpsys_hxt48_ready» = true;
-  «boot_mode» = h .«boot_mode»;
-  «wake_count» = h .«wake_count»;
-  tasks = h .tasks;
-  count = h .count;
-}
+withLpsysHxt48 h = withReady (h .«hxt48_ready») (h .«hrc48_ready») true h
 
 abbrev pub lpsysHxt48On : Effect
 lpsysHxt48On r = headed (withLpsysHxt48 (r .head)) r

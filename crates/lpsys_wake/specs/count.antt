@@ -1,20 +1,12 @@
 -- The count of wakes of the LPSYS core, rcc/clock_lpsys.rs, as effects on a running call. Assumes nothing.
 use Prim.Native.Nat.{ℕ, _+_, _%_}
 use Rattle.head.specs.declared.Head.{Head}
+use Rattle.head.specs.Head.{withWakeCount}
 use Rattle.journal.specs.Run.{Run, Effect, going, headed}
 
 -- another wake count
 abbrev pub counted : ℕ → Head → Head
-counted n h = record {
-  regs = h .regs;
-  «hxt48_ready» = h .«hxt48_ready»;
-  «hrc48_ready» = h .«hrc48_ready»;
-  «lpsys_hxt48_ready» = h .«lpsys_hxt48_ready»;
-  «boot_mode» = h .«boot_mode»;
-  «wake_count» = n;
-  tasks = h .tasks;
-  count = h .count;
-}
+counted n h = withWakeCount n h
 
 -- "The count wraps at 8 bits."
 unfoldable pub countUp : Effect

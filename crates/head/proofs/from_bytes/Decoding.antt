@@ -6,7 +6,7 @@ use mathlib.Core.List.{List, [], _∷_, _++_, append-assoc}
 use native.Mathlib.Omega.{arith}
 use lib.ListN.{length, getD, take, drop, replicate, length-append, length-drop, length-replicate, take-append-drop}
 use lib.Seq.{getD-take, getD-drop, take-add, drop-at, length-take-le, drop-drop}
-use Rattle.layout.specs.Layout.{registerSize, registersSize, hxt48ReadyAt, hrc48ReadyAt, lpsysHxt48ReadyAt, bootModeAt, wakeCountAt}
+use Rattle.layout.specs.Layout.{registerSize, registersSize, hxt48ReadyAt, hrc48ReadyAt, lpsysHxt48ReadyAt}
 use Rattle.layout.specs.Layout.{codedSize, stateSize, mostTasks, firstTask, taskSize, recordSize, lengthOf}
 use Rattle.record.proofs.Bytes.{within-at}
 use Rattle.task.specs.declared.Task.{Task}
@@ -26,7 +26,7 @@ use Rattle.register.proofs.Words.{bytes-of-word, word-length}
 use Rattle.task.proofs.bytes.Laws.{bytes-of-task, bytes-drop, task-in-bytes}
 use Rattle.register.proofs.Fits.{codes-fit, zero-fits}
 use Rattle.record.proofs.Lists.{part-by-place}
-use Rattle.head.proofs.Fields.{state-again}
+use Rattle.head.proofs.Fields.{state-again, head-encodable}
 use Rattle.head.proofs.from_bytes.Passed.{Passed, passed}
 use Rattle.task.proofs.bytes.Places.{tasks-length, places-booked}
 
@@ -78,20 +78,17 @@ module _ (b : List ℕ) (p : Passed b) (bytes : Bytes b) where
       (task-in-bytes (drop (taskSize * k) (drop firstTask b)) (bytes-drop (drop firstTask b) (taskSize * k) (bytes-drop b firstTask bytes)))
 
   decoded : Encodable (headOf b)
-  unfolding headOf
   decoded =
-      record {
-        words = registers-length;
-        codes = registers-fit;
-        boot = bytes bootModeAt;
-        wake = bytes wakeCountAt;
+      head-encodable b bytes
+      (record { words = registers-length; codes = registers-fit })
+      (record {
         places = places-length;
         room = p .count;
         each = rw places-booked (p .each);
         apart = rw places-booked (p .apart);
         inBytes = places-in-bytes;
         rest = places-rest;
-      }
+      })
 
 -- a record that is not refused gives an encodable head
 pub decode-encodable : (b : List ℕ) → Bytes b → headRefusal b ≡ 0 → Encodable (headOf b)

@@ -17,6 +17,7 @@ use Rattle.head.specs.declared.Head.{Head}
 use Rattle.head.specs.Head.{booked}
 use Rattle.head.specs.Encodable.{Encodable}
 use Rattle.head.specs.tasks.{holding, withTask, withoutTask, placeOf, movedUp}
+use Rattle.head.proofs.Fields.{with-tasks-encodable}
 use Rattle.head.proofs.tasks.Places.{Placed, place-of}
 
 -- the tasks booked are as many as counted, and the other places are empty
@@ -81,15 +82,12 @@ module _ (ts : List Task) (h : Head) where
 
   pub holding-encodable : Encodable h → length ts ≤ mostTasks → allOk ts ≡ true → distinct ts ≡ true → ((k : ℕ) → k < length ts → InBytes (getD ts k noTask)) → Encodable (holding ts h)
   holding-encodable ok few each apart bytes =
-      record {
-        words = ok .words;
-        codes = ok .codes;
-        boot = ok .boot;
-        wake = ok .wake;
+      with-tasks-encodable ok
+      (record {
         places = length-append ts (replicate (mostTasks - length ts) noTask) ∙ rw length-replicate (omega (arith, few));
         room = few;
         each = rw booked-holding each;
         apart = rw booked-holding apart;
         inBytes = λ k l. rw (List·getD-append ts (replicate (mostTasks - length ts) noTask) noTask k l) (bytes k l);
         rest = drop-at ts (replicate (mostTasks - length ts) noTask) (length ts) refl;
-      }
+      })

@@ -2,7 +2,7 @@
 use native.Mathlib.Omega.{arith}
 use mathlib.Core.Path.{refl}
 use Rattle.journal.specs.Run.{withLpsysHxt48}
-use Rattle.head.proofs.Stores.{same-tasks-encodable}
+use Rattle.head.proofs.Fields.{with-ready-encodable}
 use Rattle.journal.proofs.Reached.{ran-ended, ran-headed}
 use Rattle.waits.proofs.hxt48.set_lpsys_hxt48.Statement.{statement}
 use Rattle.waits.proofs.hxt48.set_lpsys_hxt48.Tie as tie
@@ -16,11 +16,10 @@ returns-2 : tie.Need-returns-2
 returns-2 c =
     let else1 : tie.Else1 = search in
     let start : tie.Start = search in
-    let e = start .pre in
     record {
       ran = λ j. ran-headed withLpsysHxt48 (start .args .m) j (else1 .if1 .left);
       room = omega arith;
-      encodable = same-tasks-encodable e (e .words) (e .codes) (e .boot) (e .wake) refl refl;
+      encodable = with-ready-encodable (start .pre) _ _ _;
       answers = refl;
     }
 
