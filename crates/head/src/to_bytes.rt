@@ -14,9 +14,8 @@ fn write_front(count: u8, buffer: &mut [u8])
     ensures { λ _. ⌜ now (buffer .exit) ≡ laid 0 (frontOf count) (now (buffer .entry)) ⌝ }
 {
     let length = crate::from_bytes::length_of(count);
-    buffer[0] = (length / 256) as u8;
-    buffer[1] = (length % 256) as u8;
-    buffer[layout::VERSION_AT] = 1;
+    let front = [(length / 256) as u8, (length % 256) as u8, 1];
+    record::put(buffer, 0, &front);
 }
 
 fn flag(on: bool) -> u8
@@ -30,12 +29,15 @@ fn write_state(head: Head, buffer: &mut [u8])
     requires { ⌜ length (now buffer) ≡ bufferBytes ⌝ }
     ensures { λ _. ⌜ now (buffer .exit) ≡ laid hxt48ReadyAt (stateOf head) (now (buffer .entry)) ⌝ }
 {
-    buffer[layout::HXT48_READY_AT] = flag(head.hxt48_ready);
-    buffer[layout::HRC48_READY_AT] = flag(head.hrc48_ready);
-    buffer[layout::LPSYS_HXT48_READY_AT] = flag(head.lpsys_hxt48_ready);
-    buffer[layout::BOOT_MODE_AT] = head.boot_mode;
-    buffer[layout::WAKE_COUNT_AT] = head.wake_count;
-    buffer[layout::TASK_COUNT_AT] = head.count;
+    let state = [
+        flag(head.hxt48_ready),
+        flag(head.hrc48_ready),
+        flag(head.lpsys_hxt48_ready),
+        head.boot_mode,
+        head.wake_count,
+        head.count,
+    ];
+    record::put(buffer, layout::HXT48_READY_AT, &state);
 }
 
 // Writes a head's record at the front of a buffer.

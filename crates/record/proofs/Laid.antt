@@ -5,8 +5,8 @@ use mathlib.Core.List.{List, [], _∷_, _++_, append-assoc}
 use native.Mathlib.Omega.{arith}
 use native.Mathlib.Nat.{add-assoc, add-zero, zero-add, add-comm, mul-suc}
 use native.Mathlib.Numerals.{add-one}
-use lib.ListN.{length, getD, take, drop, length-append, take-append-drop}
-use lib.Seq.{drop-drop, take-at, drop-at, sets, sets-eq, length-take-le}
+use lib.ListN.{length, getD, take, drop, set, length-append, take-append-drop}
+use lib.Seq.{drop-drop, take-suc, take-at, drop-at, sets, sets-eq, length-take-le}
 use Rattle.record.specs.Items.{joined, laid}
 use Rattle.record.proofs.Items.{joined-next, joined-length}
 
@@ -40,6 +40,15 @@ laid-front p b = rw zero-add
 pub laid-sets : (at : ℕ) (vs b : List ℕ) → at + length vs ≤ length b → sets b at vs ≡ laid at vs b
 unfolding laid
 laid-sets at vs b h = sets-eq vs b at h ∙ append-assoc (take at b) vs (drop (at + length vs) b)
+
+-- a turn of a loop that stores the bytes `vs` from place `at` on
+pub laid-byte : (at i : ℕ) (vs b l : List ℕ) → i < length vs → at + length vs ≤ length b → length l ≡ length b → l ≡ laid at (take i vs) b →
+    set l (at + i) (getD vs i 0) ≡ laid at (take (i + 1) vs) b
+laid-byte at i vs b l h room same e =
+    let v : List ℕ = getD vs i 0 ∷ [] in
+    let n : length (take i vs) ≡ i = length-take-le i vs (omega arith) in
+    laid-sets (at + i) v l (omega arith)
+    ∙ (ap (laid (at + i) v) e ∙ (laid-then at (at + i) (take i vs) v b (omega arith) (omega arith) ∙ rw (add-one i, take-suc vs i 0 h)))
 
 module _ {A : Type 0} (g : A → List ℕ) (size : ℕ) (sized : (x : A) → length (g x) ≡ size) where
   -- a turn of a loop that writes the items `xs` from place `at` on

@@ -1,7 +1,6 @@
--- `head::to_bytes::write_front` meets its contract: three stores in a row. Assumes nothing.
-use native.Mathlib.Omega.{arith}
+-- `head::to_bytes::write_front` meets its contract: the bytes put are those of `frontOf`. Assumes nothing.
+use mathlib.Core.Path.{_∙_}
 use Rattle.head.specs.from_bytes.Record.{frontOf}
-use Rattle.record.proofs.Laid.{laid-sets}
 use borrow.Author.Needs.{needs}
 use Rattle.head.proofs.to_bytes.write_front.Statement.{statement}
 use Rattle.head.proofs.to_bytes.write_front.Tie as tie
@@ -9,20 +8,17 @@ use Rattle.head.proofs.to_bytes.write_front.Tie as tie
 length-of-requires : tie.Need-length-of-requires
 length-of-requires c κs = search needs
 
-cast-buffer : tie.Need-cast-buffer
-cast-buffer c = search needs
+cast-t6 : tie.Need-cast-t6
+cast-t6 c = search needs
 
-slice-write-buffer : tie.Need-slice-write-buffer
-slice-write-buffer c = search needs
+cast-t8 : tie.Need-cast-t8
+cast-t8 c = search needs
 
-cast-buffer-2 : tie.Need-cast-buffer-2
-cast-buffer-2 c = search needs
+slice-aggregate-put : tie.Need-slice-aggregate-put
+slice-aggregate-put c = search needs
 
-slice-write-buffer-2 : tie.Need-slice-write-buffer-2
-slice-write-buffer-2 c = search needs
-
-slice-write-buffer-3 : tie.Need-slice-write-buffer-3
-slice-write-buffer-3 c = search needs
+put-requires : tie.Need-put-requires
+put-requires c κs = search needs
 
 same-length : tie.Need-same-length
 same-length c = search needs
@@ -30,18 +26,18 @@ same-length c = search needs
 returns : tie.Need-returns
 unfolding frontOf
 returns c =
-    let start : tie.Start = search in
-    rw (c .length-of .ensures) (laid-sets 0 (frontOf (start .args .count)) (start .args .buffer .now) (omega arith))
+    let written : tie.After-put = search in
+    let counted : tie.After-length-of = search in
+    written .put .ensures ∙ rw (counted .length-of .ensures)
 
 pub write-front-spec : {M : Type 1} → statement M
 write-front-spec =
     tie.close
     (tie.spec
     length-of-requires
-    cast-buffer
-    slice-write-buffer
-    cast-buffer-2
-    slice-write-buffer-2
-    slice-write-buffer-3
+    cast-t6
+    cast-t8
+    slice-aggregate-put
+    put-requires
     same-length
     returns)
