@@ -12,12 +12,12 @@ use Rattle.time.specs.declared.Reading.{Reading}
 use Rattle.time.specs.declared.Reading.the-variants.{At, Unreadable}
 use Rattle.record.specs.Bytes.{Bytes}
 use Rattle.record.specs.Refusals.{firstOf}
-use Rattle.record.proofs.Refusals.{none-at, not-refused, not-refused-unless}
+use Rattle.record.proofs.Refusals.{NoneRefused, none-refused, not-refused, not-refused-unless}
 use Rattle.task.specs.declared.Task.{Task}
 use Rattle.task.specs.Task.{taskOk, hasId, distinct, InBytes}
 use Rattle.head.specs.declared.Head.{Head}
 use Rattle.head.specs.Head.{booked}
-use Rattle.head.specs.from_bytes.Record.{bufferBytes, headRefusal, headOf}
+use Rattle.head.specs.Record.{bufferBytes, headRefusal, headOf}
 use Rattle.head.specs.Encodable.{Encodable}
 use Rattle.head.proofs.from_bytes.Passed.{passed}
 use Rattle.head.proofs.from_bytes.Decoding.{decode-encodable}
@@ -36,20 +36,23 @@ carried-reads r load e f q = ltb-false (f .0) load (not-refused 38 (ltb (f .0) l
 
 -- the tests of a booking, all passed
 module _ (t : Task) (h : Head) (e : firstOf (bookTests t h) ≡ 0) where
-  pub passed-ok : taskOk t ≡ true
-  passed-ok = not-refused-unless 15 (taskOk t) (none-at (bookTests t h) e 0)
+  none : NoneRefused (bookTests t h)
+  none = none-refused (bookTests t h) e
 
-  pub passed-new : hasId (t .id) (booked h) ≡ false
-  passed-new = not-refused 39 _ (none-at (bookTests t h) e 1)
+  pub passed-16 : taskOk t ≡ true
+  passed-16 = let found = none in not-refused-unless 15 (taskOk t) search
 
-  pub passed-room : Encodable h → h .count < 16
-  passed-room ok = omega (arith, eqb-false (h .count) 16 (not-refused 40 _ (none-at (bookTests t h) e 2)), ok .room)
+  pub passed-40 : hasId (t .id) (booked h) ≡ false
+  passed-40 = let found = none in not-refused 39 (hasId (t .id) (booked h)) search
 
-  pub passed-load : (f : Hertz) → hclkOf h ≡ At f → loadOf (booked h ++ (t ∷ [])) ≤ f .0
-  passed-load = carried-reads (hclkOf h) (loadOf (booked h ++ (t ∷ []))) (none-at (bookTests t h) e 3)
+  pub passed-41 : Encodable h → h .count < 16
+  passed-41 ok = let found = none in omega (arith, eqb-false (h .count) 16 (not-refused 40 (eqb (h .count) 16) search), ok .room)
+
+  pub passed-39 : (f : Hertz) → hclkOf h ≡ At f → loadOf (booked h ++ (t ∷ [])) ≤ f .0
+  passed-39 = let found = none in carried-reads (hclkOf h) (loadOf (booked h ++ (t ∷ []))) search
 
   pub passed-encodable : Encodable h → InBytes t → Encodable (withTask t h)
-  passed-encodable ok bytes = more-encodable t h ok (passed-room ok) passed-ok passed-new bytes
+  passed-encodable ok bytes = more-encodable t h ok (passed-41 ok) passed-16 passed-40 bytes
 
 -- the clock does not depend on the tasks
 pub same-hclk : (t : Task) (h : Head) → hclkOf (withTask t h) ≡ hclkOf h
@@ -96,4 +99,4 @@ module _ (t : Task) (b : List ℕ) (bytes : Bytes b) (small : InBytes t) (done :
 
   -- the load is at most HCLK
   pub book-load : (f : Hertz) → hclkOf (headOf (book t b .buffer)) ≡ At f → loadOf (booked (headOf (book t b .buffer))) ≤ f .0
-  book-load f q = rw book-tasks (passed-load t (headOf b) own f (sym (same-hclk t (headOf b)) ∙ (ap hclkOf (sym book-head) ∙ q)))
+  book-load f q = rw book-tasks (passed-39 t (headOf b) own f (sym (same-hclk t (headOf b)) ∙ (ap hclkOf (sym book-head) ∙ q)))

@@ -2,7 +2,7 @@
 use Prim.Native.Nat.{ℕ}
 use mathlib.Core.List.{List}
 use Rattle.task.specs.declared.Task.{Task}
-use Rattle.head.specs.from_bytes.Record.{headOf}
+use Rattle.head.specs.Record.{headOf}
 use Rattle.head.specs.tasks.{withTask}
 use Rattle.call.specs.Call.{Result, headCall}
 use Rattle.booking.specs.tests.{bookTests}

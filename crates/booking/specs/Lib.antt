@@ -1,3 +1,3 @@
 pub mod Booking
 pub mod tests
-pub mod release
+pub mod Release

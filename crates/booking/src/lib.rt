@@ -1,10 +1,10 @@
-// Booking a task on a head, within its clock; `release` takes one out.
-pub mod release;
+// Booking a task on a head, within its clock, and releasing one.
 pub mod tests;
 
 ghost use mathlib.Core.List.{[]};
 ghost use Rattle.call.specs.Call.{Answers};
 ghost use Rattle.booking.specs.Booking.{book};
+ghost use Rattle.booking.specs.Release.{release};
 use call::Answer;
 use task::Task;
 
@@ -23,5 +23,22 @@ pub fn book(buffer: &mut [u8], id: u8, cycles: u32, period: u32) -> Answer
         return Answer::refused(refused);
     }
     let m = call::start(head::tasks::with_task(head, task));
+    call::finish(m, 0, buffer)
+}
+
+// Takes the task of an id out.
+pub fn release(buffer: &mut [u8], id: u8) -> Answer
+    ensures { λ r. ⌜ Answers (release id (now (buffer .entry))) r (now (buffer .exit)) [] ⌝ }
+{
+    let admitted = call::admit_head(buffer);
+    if admitted.refusal != 0 {
+        return Answer::refused(admitted.refusal);
+    }
+    let head = admitted.head;
+    let tasks = head.tasks;
+    if !task::rules::has_id(tasks, head.count, id) {
+        return Answer::refused(42);
+    }
+    let m = call::start(head::tasks::without_task(head, id));
     call::finish(m, 0, buffer)
 }

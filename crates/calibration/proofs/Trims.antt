@@ -14,8 +14,8 @@ use Rattle.time.specs.declared.Reading.the-variants.{At, Unreadable}
 use Rattle.head.specs.declared.Head.{Head}
 use Rattle.register.specs.Word.{wordOf}
 use Rattle.clock_read.specs.Hpsys.{hclkOf}
-use Rattle.journal.specs.Run.{Run, Effect, begin, idle, _▸_, going, ended, halted, entry, store, cycles, delayed, delay, Poll, hit, dry, poll, waited, measured, measure}
-use Rattle.calibration.specs.measure.{measurement, hxtCnt, hrcCnt, difference, judged}
+use Rattle.journal.specs.Run.{Run, Effect, begin, idle, _▸_, unlessEnded, ended, halted, entry, store, cycles, delayed, delay, Poll, readyAfter, neverReady, poll, waited, measured, measure}
+use Rattle.calibration.specs.measure.{measurement, hxtCnt, hrcCnt, difference, judgedDifference}
 use Rattle.calibration.specs.search.{nextTrim, adjusted, search}
 use Rattle.calibration.proofs.search.Laws.{Ranged, ranged-first, ranged-next}
 use Rattle.calibration.specs.Calibration.{calibrate, calibrateHrc48}
@@ -42,9 +42,9 @@ one-more es e t p = record { each = λ i h. by i (decLt i (length es)) h }
 keeps-then : {f g : Effect} → Keeps f → Keeps g → Keeps (f ▸ g)
 keeps-then {f} x y = record { keeps = λ r t. y .keeps (f r) (x .keeps r t) }
 
-keeps-going : {f : Effect} → Keeps f → Keeps (going f)
-unfolding going
-keeps-going {f} x = record { keeps = λ r t. by (eqb (r .stop) 0) r t }
+keeps-unless-ended : {f : Effect} → Keeps f → Keeps (unlessEnded f)
+unfolding unlessEnded
+keeps-unless-ended {f} x = record { keeps = λ r t. by (eqb (r .stop) 0) r t }
   where
     by : (t : Bool) (r : Run) → TrimsWithin (r .entries) → TrimsWithin (cond t (f r) r .entries)
     by true r t = x .keeps r t
@@ -52,11 +52,11 @@ keeps-going {f} x = record { keeps = λ r t. by (eqb (r .stop) 0) r t }
 
 keeps-store : (n v : ℕ) → TrimWithin (entry n v) → Keeps (store n v)
 unfolding store
-keeps-store n v p = keeps-going (record { keeps = λ r t. one-more (r .entries) (entry n v) t p })
+keeps-store n v p = keeps-unless-ended (record { keeps = λ r t. one-more (r .entries) (entry n v) t p })
 
 keeps-delay : (us : ℕ) → Keeps (delay us)
 unfolding delay
-keeps-delay us = keeps-going (record { keeps = λ r t. by (hclkOf (r .head)) r t })
+keeps-delay us = keeps-unless-ended (record { keeps = λ r t. by (hclkOf (r .head)) r t })
   where
     by : (f : Reading) (r : Run) → TrimsWithin (r .entries) → TrimsWithin (delayed f us r .entries)
     by (At f) r t = one-more (r .entries) (entry 48 (cycles (f .0) us)) t (λ e. absurd (omega arith))
@@ -64,34 +64,34 @@ keeps-delay us = keeps-going (record { keeps = λ r t. by (hclkOf (r .head)) r t
 
 keeps-measure : (a : List ℕ) → Keeps (measure a)
 unfolding measure
-keeps-measure a = keeps-going (record { keeps = λ r t. by (poll (drop (r .taken) a)) r t })
+keeps-measure a = keeps-unless-ended (record { keeps = λ r t. by (poll (drop (r .taken) a)) r t })
   where
-    either : (b : Bool) (n : ℕ) (r : Run) → TrimsWithin (r .entries) → TrimsWithin (cond b (waited 5 a (hit n) r) (ended 36 (length a) r) .entries)
+    either : (b : Bool) (n : ℕ) (r : Run) → TrimsWithin (r .entries) → TrimsWithin (cond b (waited 5 a (readyAfter n) r) (ended 36 (length a) r) .entries)
     either true n r t = one-more (r .entries) (entry 49 (5 * 65536 + n)) t (λ e. absurd (omega arith))
     either false n r t = t
 
     by : (q : Poll) (r : Run) → TrimsWithin (r .entries) → TrimsWithin (measured a q r .entries)
-    by (hit n) r t = either (leb (r .taken + n + 2) (length a)) (n + 2) r t
-    by dry r t = t
+    by (readyAfter n) r t = either (leb (r .taken + n + 2) (length a)) (n + 2) r t
+    by neverReady r t = t
 
 -- a refusal and the verdict on the final difference write nothing
 halted-keeps : (n : ℕ) (r : Run) → (halted n r .entries ≡ r .entries) × (halted n r .head ≡ r .head)
-unfolding halted going
+unfolding halted unlessEnded
 halted-keeps n r = by (eqb (r .stop) 0)
   where
     by : (t : Bool) → (cond t (ended n (r .taken) r) r .entries ≡ r .entries) × (cond t (ended n (r .taken) r) r .head ≡ r .head)
     by true = (refl, refl)
     by false = (refl, refl)
 
-pub judged-keeps : (d : ℕ) (r : Run) → (judged d r .entries ≡ r .entries) × (judged d r .head ≡ r .head)
-unfolding judged
+pub judged-keeps : (d : ℕ) (r : Run) → (judgedDifference d r .entries ≡ r .entries) × (judgedDifference d r .head ≡ r .head)
+unfolding judgedDifference
 judged-keeps d r = by (ltb 160 d)
   where
     by : (t : Bool) → (cond t (halted 33) idle r .entries ≡ r .entries) × (cond t (halted 33) idle r .head ≡ r .head)
     by true = halted-keeps 33 r
     by false = (refl, refl)
 
-keeps-judged : (d : ℕ) → Keeps (judged d)
+keeps-judged : (d : ℕ) → Keeps (judgedDifference d)
 keeps-judged d = record { keeps = λ r t. rw (judged-keeps d r .0) t }
 
 keeps-measurement : (trim : ℕ) (a : List ℕ) → 1 ≤ trim → trim ≤ 1023 → Keeps (measurement trim a)
@@ -106,7 +106,7 @@ keeps-adjusted : (trim step : ℕ) (a : List ℕ) (more : ℕ → ℕ → Effect
 unfolding adjusted
 keeps-adjusted trim step a more x = record { keeps = λ r t. by (ltb (difference (hxtCnt a r) (hrcCnt a r)) 64) (hxtCnt a r) (hrcCnt a r) (difference (hxtCnt a r) (hrcCnt a r)) r t }
   where
-    by : (b : Bool) (hxt hrc d : ℕ) (r : Run) → TrimsWithin (r .entries) → TrimsWithin (cond b (judged d r) (more (nextTrim trim step hxt hrc) d r) .entries)
+    by : (b : Bool) (hxt hrc d : ℕ) (r : Run) → TrimsWithin (r .entries) → TrimsWithin (cond b (judgedDifference d r) (more (nextTrim trim step hxt hrc) d r) .entries)
     by true hxt hrc d r t = keeps-judged d .keeps r t
     by false hxt hrc d r t = x hxt hrc d .keeps r t
 
@@ -141,14 +141,14 @@ module _ (trim step d : ℕ) (a : List ℕ) (r : Run) where
   abbrev apart : ℕ
   apart = difference (hxtCnt a last) (hrcCnt a last)
 
-  pub good-ends : (n : ℕ) → apart < 64 → search (suc n) trim step d a r ≡ judged apart last
+  pub good-ends : (n : ℕ) → apart < 64 → search (suc n) trim step d a r ≡ judgedDifference apart last
   unfolding search adjusted
   good-ends n h = rw (lt-ltb apart 64 h)
 
-  pub eleventh-ends : search 1 trim step d a r ≡ judged apart last
+  pub eleventh-ends : search 1 trim step d a r ≡ judgedDifference apart last
   unfolding search adjusted
   eleventh-ends = by (ltb apart 64)
     where
-      by : (t : Bool) → cond t (judged apart last) (judged apart last) ≡ judged apart last
+      by : (t : Bool) → cond t (judgedDifference apart last) (judgedDifference apart last) ≡ judgedDifference apart last
       by true = refl
       by false = refl

@@ -23,5 +23,5 @@ unfoldable pub difference : ℕ → ℕ → ℕ
 difference hxt hrc = cond (ltb hrc hxt) (hxt - hrc) (hrc - hxt)
 
 -- "33 final difference above 160"
-unfoldable pub judged : ℕ → Effect
-judged d = cond (ltb 160 d) (halted 33) idle
+unfoldable pub judgedDifference : ℕ → Effect
+judgedDifference d = cond (ltb 160 d) (halted 33) idle

@@ -3,7 +3,7 @@ ghost use mathlib.Core.Path.{_≡_};
 ghost use Prim.Native.Nat.{_≤_};
 ghost use Rattle.head.specs.Encodable.{Encodable};
 ghost use Rattle.journal.specs.Machine.{Lent, Does, DoesWithoutJournal, taking};
-ghost use Rattle.calibration.specs.measure.{measurement as measurementAt, difference as differenceOf, judged as judgedBy};
+ghost use Rattle.calibration.specs.measure.{measurement as measurementAt, difference as differenceOf, judgedDifference as judgedBy};
 use journal::Machine;
 
 // One measurement at a trim; the two answers taken last are hxt_cnt and hrc_cnt.

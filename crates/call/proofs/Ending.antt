@@ -5,19 +5,18 @@ use mathlib.Core.Bool.{cond}
 use mathlib.Core.List.{List, _++_}
 use native.Mathlib.Omega.{arith}
 use lib.Dec.{eqb}
-use lib.ListN.{length, drop}
-use borrow.Author.Tests.{eq-eqb, ne-eqb}
+use borrow.Author.Tests.{ne-eqb}
 use Rattle.head.specs.declared.Head.{Head}
 use Rattle.record.specs.Refusals.{firstOf}
 use Rattle.record.proofs.Refusals.{first-refuses, first-passes}
-use Rattle.head.specs.from_bytes.Record.{bufferBytes, headOf, written}
-use Rattle.head.specs.Encodable.{Encodable}
+use Rattle.head.specs.Record.{headOf, written}
 use Rattle.journal.specs.declared.Machine.{Machine}
-use Rattle.journal.specs.Run.{Run, Effect, begin}
-use Rattle.journal.specs.Machine.{machineOf, Reached, Ran}
+use Rattle.journal.specs.Run.{Effect, begin}
+use Rattle.journal.specs.Machine.{machineOf, Ran}
 use Rattle.call.specs.declared.Answer.{Answer}
 use Rattle.call.specs.declared.Admitted.{Admitted}
 use Rattle.call.specs.Call.{performed, Answers, Admits, Finishes}
+pub use Rattle.call.proofs.Admitting.{tests-passed, call-head, call-encodable, call-bytes}
 
 -- a call that is refused by its tests changes neither head nor journal
 pub answers-refused : (refusal n : ℕ) (f : Effect) (v : ℕ) (b j : List ℕ) → refusal ≡ n → (n ≡ 0 → ⊥) →
@@ -43,9 +42,6 @@ answers-run refusal f v b j b' j' h m₀ m r e q s x y =
 
 -- the three ways out of a call: its shared tests `ts` refuse, its own tests `ns` refuse, or it runs
 module _ {ts : List ℕ} {b : List ℕ} {o : Admitted} (x : Admits ts b o) where
-  passed : o .refusal ≡ 0 → firstOf ts ≡ 0
-  passed z = sym (x .refusal-is) ∙ z
-
   pub call-unadmitted : (ns : List ℕ) (f : Effect) (v : ℕ) (j : List ℕ) (r : Answer) → (o .refusal ≡ 0 → ⊥) →
       r ≡ record { refusal = o .refusal; value = 0; entries = 0; taken = 0 } → Answers (performed (firstOf (ts ++ ns)) f v b j) r b j
   call-unadmitted ns f v j r z e =
@@ -53,7 +49,7 @@ module _ {ts : List ℕ} {b : List ℕ} {o : Admitted} (x : Admits ts b o) where
 
   pub call-refused-by : (ns : List ℕ) (n : ℕ) (f : Effect) (v : ℕ) (j : List ℕ) (r : Answer) → o .refusal ≡ 0 → firstOf ns ≡ n → (n ≡ 0 → ⊥) →
       r ≡ record { refusal = n; value = 0; entries = 0; taken = 0 } → Answers (performed (firstOf (ts ++ ns)) f v b j) r b j
-  call-refused-by ns n f v j r z q w e = rw e (answers-refused (firstOf (ts ++ ns)) n f v b j (first-passes ts ns (passed z) ∙ q) w)
+  call-refused-by ns n f v j r z q w e = rw e (answers-refused (firstOf (ts ++ ns)) n f v b j (first-passes ts ns (tests-passed x z) ∙ q) w)
 
   pub call-refused : (ns : List ℕ) (n : ℕ) (f : Effect) (v : ℕ) (j : List ℕ) (r : Answer) → o .refusal ≡ 0 → firstOf ns ≡ suc n →
       r ≡ record { refusal = suc n; value = 0; entries = 0; taken = 0 } → Answers (performed (firstOf (ts ++ ns)) f v b j) r b j
@@ -61,13 +57,4 @@ module _ {ts : List ℕ} {b : List ℕ} {o : Admitted} (x : Admits ts b o) where
 
   pub call-ran : (ns : List ℕ) (f : Effect) (v : ℕ) (j b' j' : List ℕ) (m₀ m : Machine) (r : Answer) → o .refusal ≡ 0 → firstOf ns ≡ 0 →
       m₀ ≡ machineOf (begin (o .head)) → Ran f m₀ m j j' → Finishes m v r b b' → Answers (performed (firstOf (ts ++ ns)) f v b j) r b' j'
-  call-ran ns f v j b' j' m₀ m r z q = answers-run (firstOf (ts ++ ns)) f v b j b' j' (o .head) m₀ m r (first-passes ts ns (passed z) ∙ q) (x .head-is (passed z))
-
-  pub call-encodable : o .refusal ≡ 0 → Encodable (o .head)
-  call-encodable z = x .encodable (passed z)
-
-  pub call-bytes : o .refusal ≡ 0 → length b ≡ bufferBytes
-  call-bytes z = x .bytes (passed z)
-
-  pub call-head : o .refusal ≡ 0 → o .head ≡ headOf b
-  call-head z = x .head-is (passed z)
+  call-ran ns f v j b' j' m₀ m r z q = answers-run (firstOf (ts ++ ns)) f v b j b' j' (o .head) m₀ m r (first-passes ts ns (tests-passed x z) ∙ q) (call-head x z)

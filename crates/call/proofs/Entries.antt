@@ -6,7 +6,7 @@ use native.Mathlib.Omega.{arith}
 use lib.Dec.{eqb}
 use lib.ListN.{length, length-append}
 use Rattle.journal.specs.Run.{Run, Effect, begin}
-use Rattle.head.specs.from_bytes.Record.{headOf}
+use Rattle.head.specs.Record.{headOf}
 use Rattle.call.specs.Call.{performed, finished, refused}
 
 by-cases : (t : Bool) (r : Run) (refusal value : ℕ) (b j : List ℕ) →

@@ -1,16 +1,16 @@
 -- A call on a head's bytes: its tests, its run, and what it leaves. Assumes nothing.
-use Prim.Native.Nat.{ℕ, _<_, _≤_}
+use Prim.Native.Nat.{ℕ}
 use mathlib.Core.Path.{_≡_}
 use mathlib.Core.Bool.{cond}
 use mathlib.Core.List.{List, [], _∷_, _++_}
 use lib.Dec.{eqb, ltb}
 use lib.ListN.{length, drop}
 use Rattle.record.specs.Refusals.{refuse, firstOf}
-use Rattle.head.specs.from_bytes.Record.{bufferBytes, headRefusal, headOf, written}
+use Rattle.head.specs.Record.{bufferBytes, headRefusal, headOf, blank, written}
 use Rattle.head.specs.Encodable.{Encodable}
 use Rattle.head.specs.declared.Head.{Head}
 use Rattle.journal.specs.declared.Machine.{Machine}
-use Rattle.journal.specs.Run.{Run, Effect, begin, headed}
+use Rattle.journal.specs.Run.{Run, Effect, begin, withHead}
 use Rattle.call.specs.declared.Answer.{Answer}
 use Rattle.call.specs.declared.Admitted.{Admitted}
 
@@ -63,11 +63,11 @@ abbrev pub answersCall : Effect → List ℕ → List ℕ → List ℕ → Resul
 answersCall f b j a = performed (firstOf (answersTests b j a ++ [])) f 0 b j
 
 -- a call that is lent neither, and gives the head as `f` changes it
-abbrev pub changing : (Head → Head) → Effect
-changing f r = headed (f (r .head)) r
+abbrev pub changingHead : (Head → Head) → Effect
+changingHead f r = withHead (f (r .head)) r
 
 abbrev pub headCall : List ℕ → (Head → Head) → List ℕ → Result
-headCall tests f b = performed (firstOf (headTests b ++ tests)) (changing f) 0 b []
+headCall tests f b = performed (firstOf (headTests b ++ tests)) (changingHead f) 0 b []
 
 -- the code's answer, the buffer and the journal that it leaves are a result's
 pub record Answers (o : Result) (r : Answer) (b' j' : List ℕ) : Type 0 where
@@ -78,10 +78,10 @@ pub record Answers (o : Result) (r : Answer) (b' j' : List ℕ) : Type 0 where
   pub buffer : b' ≡ o .buffer
   pub journal : j' ≡ o .journal
 
--- what the first tests of a call leave: the refusal, and where there is none a head that its record holds
+-- what the first tests of a call leave: the refusal and a blank head, or none and the head, which its record holds
 pub record Admits (tests : List ℕ) (b : List ℕ) (r : Admitted) : Type 0 where
   pub refusal-is : r .refusal ≡ firstOf tests
-  pub head-is : firstOf tests ≡ 0 → r .head ≡ headOf b
+  pub head-is : r .head ≡ cond (eqb (firstOf tests) 0) (headOf b) blank
   pub encodable : firstOf tests ≡ 0 → Encodable (r .head)
   pub bytes : firstOf tests ≡ 0 → length b ≡ bufferBytes
 

@@ -6,7 +6,7 @@ pub mod word;
 ghost use mathlib.Core.Path.{_≡_};
 ghost use lib.ListN.{length};
 ghost use Rattle.head.specs.Encodable.{Encodable};
-ghost use Rattle.head.specs.from_bytes.Record.{bufferBytes};
+ghost use Rattle.head.specs.Record.{bufferBytes, blank};
 ghost use Rattle.call.specs.Call.{headTests, journalTests, answersTests, Admits, Finishes};
 ghost use Rattle.journal.specs.Run.{begin};
 ghost use Rattle.journal.specs.Machine.{machineOf};
@@ -25,9 +25,17 @@ pub struct Answer {
     pub taken: usize,
 }
 
+// What the first tests of a call answer: 0 and the head, or a refusal and a blank one.
 pub struct Admitted {
     pub refusal: u8,
     pub head: Head,
+}
+
+fn unadmitted(refusal: u8) -> Admitted
+    ensures { λ r. ⌜ r ≡ record { refusal = refusal; head = blank } ⌝ }
+{
+    let head = head::from_bytes::blank_head();
+    Admitted { refusal, head }
 }
 
 // The head's 1 to 3.
@@ -46,33 +54,23 @@ pub fn admit_head(buffer: &[u8]) -> Admitted
 pub fn admit(buffer: &[u8], journal: &[u32]) -> Admitted
     ensures { λ r. ⌜ Admits (journalTests (now (buffer .entry)) (now (journal .entry))) (now (buffer .entry)) r ⌝ }
 {
-    let decoded = head::from_bytes::decode(buffer);
-    let head = decoded.head;
     if journal.len() < JOURNAL_WORDS {
-        return Admitted { refusal: 17, head };
+        return unadmitted(17);
     }
-    Admitted {
-        refusal: decoded.refusal,
-        head,
-    }
+    admit_head(buffer)
 }
 
 // 17, 18, then the head's 1 to 3.
 pub fn admit_with_answers(buffer: &[u8], journal: &[u32], answers: &[u16]) -> Admitted
     ensures { λ r. ⌜ Admits (answersTests (now (buffer .entry)) (now (journal .entry)) (now (answers .entry))) (now (buffer .entry)) r ⌝ }
 {
-    let decoded = head::from_bytes::decode(buffer);
-    let head = decoded.head;
     if journal.len() < JOURNAL_WORDS {
-        return Admitted { refusal: 17, head };
+        return unadmitted(17);
     }
     if MOST_ANSWERS < answers.len() {
-        return Admitted { refusal: 18, head };
+        return unadmitted(18);
     }
-    Admitted {
-        refusal: decoded.refusal,
-        head,
-    }
+    admit_head(buffer)
 }
 
 impl Answer {

@@ -13,32 +13,32 @@ use Rattle.verdict.specs.declared.Verdict.the-variants.{Accepted, Refused}
 use Rattle.dvfs.specs.declared.hpsys.HpsysDvfsMode.the-variants.{D0, D1, S0, S1}
 use Rattle.dvfs.specs.declared.hpsys.HpsysModeFound.the-variants.{Mode, OutOfRange}
 use Rattle.dvfs.specs.Hpsys.{modeOf}
-use Rattle.journal.specs.Run.{Run, begin, going, halted, store, cycles, delay, poll, measure}
+use Rattle.journal.specs.Run.{Run, begin, unlessEnded, halted, store, cycles, delay, poll, measure}
 use Rattle.head.specs.declared.Head.{Head}
 use Rattle.head.specs.Head.{withRegisters, withReady}
 use Rattle.lpsys_request.specs.modes.{dividerFor}
 use Rattle.lpsys_request.proofs.modes.Divider.{source-48}
-use Rattle.head.specs.from_bytes.Record.{bufferBytes, blank, lengthFits, headRefusal, headOf, frontOf, stateOf, recordOf, written}
+use Rattle.head.specs.Record.{bufferBytes, blank, lengthFits, headRefusal, headOf, frontOf, stateOf, recordOf, written}
 use Rattle.record.specs.Items.{items, joined}
 use Rattle.register.specs.Word.{wordIn, wordBytes}
 use Rattle.register.specs.Codes.{largest}
 use Rattle.register.specs.bytes.{registersIn}
 use Rattle.task.specs.declared.Task.{Task}
 use Rattle.task.specs.Task.{taskOk, allOk, hasId, distinct}
-use Rattle.record.specs.four.{fourIn, fourBytes}
+use Rattle.record.specs.Four.{fourIn, fourBytes}
 use Rattle.task.specs.bytes.{taskIn, taskBytes, tasksIn, tasksFit, placesIn}
 use Rattle.load.specs.Load.{shareOf, loadOf}
 use Rattle.call.specs.Call.{Result, performed}
 use Rattle.booking.specs.Booking.{book}
 use Rattle.clock_read.specs.Hpsys.{dllReading, sysOf, hclkOf}
-use Rattle.calibration.specs.measure.{measurement, difference, judged}
+use Rattle.calibration.specs.measure.{measurement, difference, judgedDifference}
 use Rattle.calibration.specs.search.{nextTrim, adjusted, search}
 use Rattle.calibration.specs.Calibration.{calibrate, calibrateHrc48}
-use Rattle.plan.specs.codes.{settled, coded, dllOf}
+use Rattle.plan.specs.codes.{dllBytesLegal, coded, dllOf}
 use Rattle.plan.specs.Plan.{encoded, legal}
 use Rattle.plan.specs.bytes.{recordRefusal, planOf, decoded, defaultRecord}
 use Rattle.plan_clocks.specs.Clocks.{sysHz, hclkHz, pclk1Hz, pclk2Hz, usbHz, usbDivider, targetOf}
-use Rattle.limits.specs.sources.{coreOnAbsentDll1, coreOnDbl96, flashOnAbsentDll, usbOnAbsentDll2}
+use Rattle.limits.specs.Limits.{coreOnAbsentDll1, coreOnDbl96, flashOnAbsentDll, usbOnAbsentDll2}
 use Rattle.limits.specs.Limits.{usbNot60, dll1CoreTooSlow, hclkTooFast, pclk1TooFast, pclk2TooFast, dll2TooFast}
 use Rattle.verdict.specs.tests.{planRefusal}
 use Rattle.verdict.specs.Verdict.{verdictOf, verdict, numberOf}
@@ -68,7 +68,9 @@ plan-cases :
     × (number (set (set (set defaultRecord 8 0) 9 1) 14 0) ≡ 10)
     -- "DLL2 stage 12: 14."
     × (number (set defaultRecord 11 12) ≡ 14)
-unfolding verdict decoded recordRefusal firstOf coded isWithin settled planOf dllOf verdictOf planRefusal legal encoded coreOnAbsentDll1 coreOnDbl96 flashOnAbsentDll usbOnAbsentDll2 usbNot60 dll1CoreTooSlow hclkTooFast pclk1TooFast pclk2TooFast dll2TooFast usbHz sysHz hclkHz pclk1Hz pclk2Hz dllHz divided shifted targetOf usbDivider
+unfolding verdict decoded recordRefusal firstOf coded isWithin dllBytesLegal planOf dllOf verdictOf planRefusal legal
+    encoded coreOnAbsentDll1 coreOnDbl96 flashOnAbsentDll usbOnAbsentDll2 usbNot60 dll1CoreTooSlow hclkTooFast
+    pclk1TooFast pclk2TooFast dll2TooFast usbHz sysHz hclkHz pclk1Hz pclk2Hz dllHz divided shifted targetOf usbDivider
 plan-cases = (refl, refl, refl, refl, refl, refl, refl, refl)
 
 mode-cases :
@@ -124,7 +126,7 @@ calibration-cases :
     -- "160 done, 161 is 33."
     × (calibrated (counted 11 160 0) .stop ≡ 0)
     × (calibrated (counted 11 161 0) .stop ≡ 33)
-unfolding blank calibrateHrc48 calibrate search adjusted judged measurement nextTrim difference halted store delay measure poll going hclkOf sysOf divided
+unfolding blank calibrateHrc48 calibrate search adjusted judgedDifference measurement nextTrim difference halted store delay measure poll unlessEnded hclkOf sysOf divided
 calibration-cases = (refl, refl, refl, refl, refl)
 
 -- a head record of a core at 240 MHz: DLL1 at stage 9, undivided
@@ -150,5 +152,7 @@ task-cases :
     × (second .refusal ≡ 0)
     × (book (task 3 40000) (second .buffer) .refusal ≡ 0)
     × (book (task 3 64000) (second .buffer) .refusal ≡ 39)
-unfolding blank book performed firstOf headRefusal lengthFits isWithin largest tasksFit tasksIn items taskIn fourIn allOk taskOk distinct hasId headOf registersIn wordIn placesIn hclkOf sysOf dllReading dllHz divided written recordOf frontOf stateOf joined wordBytes taskBytes fourBytes loadOf shareOf
+unfolding blank book performed firstOf headRefusal lengthFits isWithin largest tasksFit tasksIn items taskIn fourIn
+    allOk taskOk distinct hasId headOf registersIn wordIn placesIn hclkOf sysOf dllReading dllHz divided written
+    recordOf frontOf stateOf joined wordBytes taskBytes fourBytes loadOf shareOf
 task-cases = (refl, refl, refl, refl)

@@ -10,7 +10,7 @@ use borrow.Author.Tests.{eqb-true, eqb-false, eq-eqb, ne-eqb, ltb-false, leb-tru
 use Rattle.time.specs.declared.Hertz.{Hertz}
 use Rattle.record.specs.Bytes.{Bytes}
 use Rattle.record.specs.Refusals.{refuse, firstOf}
-use Rattle.record.proofs.Refusals.{none-at, not-refused, not-refused-unless, only-test, first-passes, first-append}
+use Rattle.record.proofs.Refusals.{none-refused, not-refused, not-refused-unless, only-test, first-passes, first-append}
 use Rattle.plan.specs.declared.Plan.{Plan}
 use Rattle.plan.specs.declared.bytes.Decoded.{Decoded}
 use Rattle.plan.specs.declared.bytes.Decoded.the-variants.{Read, Unread}
@@ -24,7 +24,7 @@ use Rattle.task.specs.declared.Task.{Task}
 use Rattle.task.specs.Task.{InBytes}
 use Rattle.head.specs.declared.Head.{Head}
 use Rattle.head.specs.Head.{booked}
-use Rattle.head.specs.from_bytes.Record.{headRefusal, headOf}
+use Rattle.head.specs.Record.{headRefusal, headOf}
 use Rattle.head.specs.Encodable.{Encodable}
 use Rattle.head.proofs.from_bytes.Passed.{passed}
 use Rattle.head.proofs.from_bytes.Decoding.{decode-encodable}
@@ -41,19 +41,19 @@ use Rattle.head.proofs.tasks.Kept.{less-encodable}
 use Rattle.call.proofs.Changed.{done-buffer, refused-buffer, refusal-first, own-passed, left-head}
 use Rattle.booking.specs.tests.{bookTests}
 use Rattle.booking.specs.Booking.{book}
-use Rattle.booking.proofs.Laws.{passed-load, passed-encodable}
-use Rattle.booking.specs.release.{releaseTests, release}
-use Rattle.booking.proofs.release.Laws.{passed-has}
+use Rattle.booking.proofs.Laws.{passed-39, passed-encodable}
+use Rattle.booking.specs.Release.{releaseTests, release}
+use Rattle.booking.proofs.Released.{passed-42}
 use Rattle.lpsys_request.specs.Request.{request}
 use Rattle.lpsys_tests.proofs.Laws.{request-range}
 use Rattle.lpsys_request.specs.frequency.{requestTests, lpsysRequest}
 use Rattle.guard_change.specs.Change.{change}
-use Rattle.claim.specs.changes.{Ready, stopFor}
+use Rattle.claim.specs.Moment.{Ready, stopFor}
 use Rattle.claim.proofs.changes.View.{begun}
 use Rattle.claim.proofs.changes.Change.{Changed, change-moments}
 use Rattle.claim.proofs.requests.Coded.{codes-now}
 use Rattle.claim.proofs.requests.Laws.{request-moments, request-codes}
-use Rattle.guard.specs.tests.{unready}
+use Rattle.guard.specs.tests.{unready, overloaded}
 use Rattle.guard.specs.Guard.{changeTests, changeRefusal, changeCall}
 use Rattle.claim.specs.Claim.{Call, changing, booking, releasing, requesting, perform, Typed, after, Carries, Asked, FitHead}
 use Rattle.claim.proofs.Written.{written-bytes}
@@ -82,7 +82,7 @@ module _ (b : List ℕ) (fit : FitHead b) (ts : List Task) (holds : booked (head
 
   -- LPSYS requests
   in-range : (f : ℕ) (j : List ℕ) → firstOf (journalTests b j ++ requestTests f) ≡ 0 → (1 ≤ f) × (f ≤ 48)
-  in-range f j e = request-range f (none-at (journalTests b j ++ requestTests f) e 2)
+  in-range f j e = let none = none-refused (journalTests b j ++ requestTests f) e in request-range f search
 
   pub requests : (f : ℕ) (j : List ℕ) → Fine b (requesting f j) (lpsysRequest f b j) ts
   unfolding lpsysRequest
@@ -133,8 +133,10 @@ module _ (b : List ℕ) (fit : FitHead b) (ts : List Task) (holds : booked (head
     module _ (e : n ≡ 0) where
       own : Passed p × (Ready p h × (loadOf (booked h) ≤ hclkHz p))
       own =
-          let at = none-at (answersTests b j a ++ changeTests pb b) e in
-          (verdicts.passed p (accepted pb (at 3)), (sources p (not-refused 37 (unready p h) (at 5)), ltb-false (hclkHz p) (loadOf (booked h)) (not-refused 38 _ (at 6))))
+          let none = none-refused (answersTests b j a ++ changeTests pb b) e in
+          let ready = sources p (not-refused 37 (unready p h) search) in
+          let load = ltb-false (hclkHz p) (loadOf (booked h)) (not-refused 38 (overloaded (hclkHz p) h) search) in
+          (verdicts.passed p (accepted pb search), (ready, load))
 
       did : Changed h p a (change p a (begin h))
       did = change-moments h p a ok (fit .fit) (own .0) (own .1 .0)
@@ -142,8 +144,9 @@ module _ (b : List ℕ) (fit : FitHead b) (ts : List Task) (holds : booked (head
       changes : Fine b c (finished (change p a (begin h)) 0 b j) ts
       changes =
           let r = change p a (begin h) in
+          let left = ran-head b fit c ts holds r 0 j (did .moments) (did .encodable) (did .rest) in
           ran b fit c ts holds r 0 j (did .moments) (did .encodable) (did .rest) refl
-          ((λ z. did .stop), λ z. (ap hclkOf (ran-head b fit c ts holds r 0 j (did .moments) (did .encodable) (did .rest)) ∙ did .clock z, subst (λ (l : List Task). loadOf l ≤ hclkHz p) holds (own .1 .1)))
+          ((λ z. did .stop), λ z. (ap hclkOf left ∙ did .clock z, subst (λ (l : List Task). loadOf l ≤ hclkHz p) holds (own .1 .1)))
 
     pub guarded : Fine b c (changeCall pb b j a) ts
     unfolding changeCall
@@ -200,8 +203,10 @@ module _ (b : List ℕ) (fit : FitHead b) (ts : List Task) (holds : booked (head
       by (yes e) =
           let own = own-passed (bookTests t h) (withTask t) b e in
           let clock = begun h (fit .fit) in
-          held (booking t) (bookTests t h) (withTask t) e (passed-encodable t h own ok small) (booked h ++ (t ∷ [])) refl (rw (e, holds))
-          (λ z. (clock .hz, (ap hclkOf (head-is (booking t) (bookTests t h) (withTask t) e (passed-encodable t h own ok small) (booked h ++ (t ∷ [])) refl) ∙ clock .at, passed-load t h own _ (clock .at))))
+          let small-enough = passed-encodable t h own ok small in
+          let left = head-is (booking t) (bookTests t h) (withTask t) e small-enough (booked h ++ (t ∷ [])) refl in
+          held (booking t) (bookTests t h) (withTask t) e small-enough (booked h ++ (t ∷ [])) refl (rw (e, holds))
+          (λ z. (clock .hz, (ap hclkOf left ∙ clock .at, passed-39 t h own _ (clock .at))))
       by (no z) =
           let same = refused-buffer (bookTests t h) (withTask t) b (λ q. z (refusal-first (bookTests t h) (withTask t) b ∙ q)) in
           unchanged b fit (booking t) ts holds (headCall (bookTests t h) (withTask t) b) (silent (bookTests t h) (withTask t)) same (rw (ne-eqb _ 0 z)) (λ q. absurd (z q))
@@ -212,7 +217,7 @@ module _ (b : List ℕ) (fit : FitHead b) (ts : List Task) (holds : booked (head
     where
       by : Dec (headCall (releaseTests id h) (withoutTask id) b .refusal ≡ 0) → Fine b (releasing id) (headCall (releaseTests id h) (withoutTask id) b) ts
       by (yes e) =
-          let has = passed-has id h (own-passed (releaseTests id h) (withoutTask id) b e) in
+          let has = passed-42 id h (own-passed (releaseTests id h) (withoutTask id) b e) in
           held (releasing id) (releaseTests id h) (withoutTask id) e (less-encodable id h ok has) (without id (booked h)) refl (rw (e, holds)) tt
       by (no z) =
           let same = refused-buffer (releaseTests id h) (withoutTask id) b (λ q. z (refusal-first (releaseTests id h) (withoutTask id) b ∙ q)) in

@@ -4,7 +4,7 @@ use mathlib.Core.Path.{_≡_, refl}
 use mathlib.Core.List.{List, [], _∷_}
 use Rattle.task.specs.declared.Task.{Task}
 use Rattle.head.specs.Head.{booked}
-use Rattle.head.specs.from_bytes.Record.{headOf}
+use Rattle.head.specs.Record.{headOf}
 use Rattle.claim.specs.Claim.{Call, changing, booking, releasing, requesting, perform, Typed, AllTyped, after, Claim, FitHead, Demand3}
 use Rattle.claim.proofs.Performed.{Fine}
 use Rattle.claim.proofs.Calls.{guarded, books, releases, requests}

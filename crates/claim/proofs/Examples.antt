@@ -9,11 +9,11 @@ use Rattle.record.specs.Bytes.{isWithin}
 use Rattle.record.specs.Refusals.{firstOf}
 use Rattle.record.specs.Items.{items, joined}
 use Rattle.clock.specs.Clock.{dllHz, divided, shifted}
-use Rattle.plan.specs.codes.{settled, coded, dllOf}
+use Rattle.plan.specs.codes.{dllBytesLegal, coded, dllOf}
 use Rattle.plan.specs.Plan.{encoded, legal}
 use Rattle.plan.specs.bytes.{recordRefusal, planOf, decoded, defaultRecord}
 use Rattle.plan_clocks.specs.Clocks.{sysHz, hclkHz, pclk1Hz, pclk2Hz, usbHz, usbDivider, targetOf}
-use Rattle.limits.specs.sources.{coreOnAbsentDll1, coreOnDbl96, flashOnAbsentDll, usbOnAbsentDll2}
+use Rattle.limits.specs.Limits.{coreOnAbsentDll1, coreOnDbl96, flashOnAbsentDll, usbOnAbsentDll2}
 use Rattle.limits.specs.Limits.{usbNot60, dll1CoreTooSlow, hclkTooFast, pclk1TooFast, pclk2TooFast, dll2TooFast}
 use Rattle.verdict.specs.tests.{planRefusal}
 use Rattle.verdict.specs.Verdict.{verdictOf, verdict}
@@ -22,22 +22,22 @@ use Rattle.register.specs.Codes.{largest}
 use Rattle.register.specs.bytes.{registersIn}
 use Rattle.task.specs.declared.Task.{Task}
 use Rattle.task.specs.Task.{taskOk, allOk, hasId, distinct}
-use Rattle.record.specs.four.{fourIn, fourBytes}
+use Rattle.record.specs.Four.{fourIn, fourBytes}
 use Rattle.task.specs.bytes.{taskIn, taskBytes, tasksIn, tasksFit, placesIn}
 use Rattle.load.specs.Load.{shareOf, loadOf}
 use Rattle.head.specs.declared.Head.{Head}
 use Rattle.head.specs.Head.{withRegisters, withReady}
-use Rattle.head.specs.from_bytes.Record.{bufferBytes, blank, lengthFits, headRefusal, headOf, frontOf, stateOf, recordOf, written}
+use Rattle.head.specs.Record.{bufferBytes, blank, lengthFits, headRefusal, headOf, frontOf, stateOf, recordOf, written}
 use Rattle.clock_read.specs.Hpsys.{dllReading, sysOf, hclkOf}
 use Rattle.clock_read.specs.lpsys.{lpsysSysOf, lpsysHclkOf}
-use Rattle.journal.specs.Run.{going, store, delay, poll, wait}
+use Rattle.journal.specs.Run.{unlessEnded, store, delay, poll, wait}
 use Rattle.dvfs.specs.Hpsys.{modeOf}
 use Rattle.dvfs.specs.lpsys.{lpsysModeOf}
 use Rattle.dvfs_lpsys.specs.switch.{lpsysD2sFirst, lpsysS2dFirst, lpsysS2dSecond}
 use Rattle.dvfs_hpsys.specs.volts.{vrefOf, sxModeVolt, timing}
 use Rattle.dvfs_hpsys.specs.switch.{d2sFirst, s2dFirst, s2dSecond}
 use Rattle.fit.specs.rail.{met, higher, railLimit}
-use Rattle.fit.specs.Fit.{lit, fits}
+use Rattle.fit.specs.Fit.{sourceIsOn, fits}
 use Rattle.dll.specs.Dll.{hpbgOn, vddpswOn, dllOff, dllOn, relocked, setDll, configureDll}
 use Rattle.core_clock.specs.dividers.{dividers}
 use Rattle.guard_steps.specs.peak.{modeAt, highest, peakOf}
@@ -52,7 +52,7 @@ use Rattle.lpsys_request.specs.frequency.{lpsysRequest}
 use Rattle.call.specs.Call.{performed}
 use Rattle.head.specs.tasks.{holding, without}
 use Rattle.booking.specs.Booking.{book}
-use Rattle.booking.specs.release.{release}
+use Rattle.booking.specs.Release.{release}
 use Rattle.claim.specs.Claim.{Call, changing, booking, releasing, requesting, perform}
 
 -- a head at 48 MHz on D: the core on HXT48, D1's buck and ldo, LPSYS on HXT48 at 24 MHz
@@ -73,17 +73,15 @@ abbrev answers : List ℕ → List Call → List ℕ
 answers b [] = []
 answers b (c ∷ cs) = perform c b .refusal ∷ answers (perform c b .buffer) cs
 
-fit-example : (headRefusal bytes48 ≡ 0) × (fits (headOf bytes48) ≡ true)
-unfolding blank headRefusal firstOf lengthFits isWithin largest tasksFit tasksIn items taskIn fourIn allOk taskOk distinct hasId headOf registersIn wordIn placesIn written recordOf frontOf stateOf joined wordBytes taskBytes fourBytes fits lit railLimit higher met vrefOf hclkOf sysOf dllReading dllHz divided lpsysHclkOf lpsysSysOf
-fit-example = (refl, refl)
+abbrev Fit : Type 0
+Fit = (headRefusal bytes48 ≡ 0) × (fits (headOf bytes48) ≡ true)
 
--- 240 MHz by the default plan, two tasks, LPSYS at 48 MHz, a task released, and the core back at 48 MHz
-done-example :
+-- 240 MHz by the default plan, two tasks, LPSYS at 48 MHz, and a task released
+abbrev Done : Type 0
+Done =
     answers bytes48
     (changing defaultRecord journal (0 ∷ 1 ∷ []) ∷ booking (task 1 120000) ∷ booking (task 2 80000) ∷ requesting 48 journal ∷ releasing 1 ∷ [])
     ≡ 0 ∷ 0 ∷ 0 ∷ 0 ∷ 0 ∷ []
-unfolding blank headRefusal firstOf lengthFits isWithin largest tasksFit tasksIn items taskIn fourIn allOk taskOk distinct hasId headOf registersIn wordIn placesIn written recordOf frontOf stateOf joined wordBytes taskBytes fourBytes fits lit railLimit higher met vrefOf hclkOf sysOf dllReading dllHz divided lpsysHclkOf lpsysSysOf verdict decoded recordRefusal coded settled planOf dllOf verdictOf planRefusal legal encoded coreOnAbsentDll1 coreOnDbl96 flashOnAbsentDll usbOnAbsentDll2 usbNot60 dll1CoreTooSlow hclkTooFast pclk1TooFast pclk2TooFast dll2TooFast usbHz sysHz hclkHz pclk1Hz pclk2Hz shifted targetOf usbDivider changeCall performed change peakOf highest modeAt modeOf raise leaveDll1 toHxt48 toPlanned backTo dividers configureDll setDll relocked dllOff dllOn hpbgOn vddpswOn d2sFirst s2dFirst s2dSecond sxModeVolt timing store going delay wait poll loadOf shareOf book release without lpsysRequest request setHdiv dividerFor presentMode requestMode lpsysModeOf lpsysD2sFirst lpsysS2dFirst lpsysS2dSecond
-done-example = refl
 
 -- each refusal that such a list can meet, on one head: the head's 1 to 3, 34 and 37 are not among them
 abbrev with : List ℕ → ℕ → ℕ → List ℕ
@@ -105,7 +103,8 @@ on select = with (without-usb (without-dll1 defaultRecord)) 3 select
 abbrev tried : List ℕ → Call
 tried plan = changing plan journal (1 ∷ [])
 
-refused-example :
+abbrev Refused : Type 0
+Refused =
     answers bytes48
     (changing defaultRecord (replicate 127 0) []
     ∷ changing defaultRecord journal (replicate 4097 0)
@@ -136,14 +135,25 @@ refused-example :
     ∷ changing defaultRecord journal (0 ∷ 0 ∷ [])
     ∷ [])
     ≡ 17 ∷ 18 ∷ 1 ∷ 2 ∷ 3 ∷ 4 ∷ 5 ∷ 6 ∷ 7 ∷ 8 ∷ 9 ∷ 10 ∷ 11 ∷ 12 ∷ 13 ∷ 14 ∷ 38 ∷ 17 ∷ 15 ∷ 15 ∷ 16 ∷ 39 ∷ 0 ∷ 40 ∷ 39 ∷ 42 ∷ 36 ∷ []
-unfolding blank headRefusal firstOf lengthFits isWithin largest tasksFit tasksIn items taskIn fourIn allOk taskOk distinct hasId headOf registersIn wordIn placesIn written recordOf frontOf stateOf joined wordBytes taskBytes fourBytes fits lit railLimit higher met vrefOf hclkOf sysOf dllReading dllHz divided lpsysHclkOf lpsysSysOf verdict decoded recordRefusal coded settled planOf dllOf verdictOf planRefusal legal encoded coreOnAbsentDll1 coreOnDbl96 flashOnAbsentDll usbOnAbsentDll2 usbNot60 dll1CoreTooSlow hclkTooFast pclk1TooFast pclk2TooFast dll2TooFast usbHz sysHz hclkHz pclk1Hz pclk2Hz shifted targetOf usbDivider changeCall performed change peakOf highest modeAt modeOf raise leaveDll1 toHxt48 toPlanned backTo dividers configureDll setDll relocked dllOff dllOn hpbgOn vddpswOn d2sFirst s2dFirst s2dSecond sxModeVolt timing store going delay wait poll loadOf shareOf book release without lpsysRequest request setHdiv dividerFor presentMode requestMode lpsysModeOf lpsysD2sFirst lpsysS2dFirst lpsysS2dSecond
-refused-example = refl
 
 -- and 41, on a head with sixteen tasks
 abbrev sixteen : ℕ → List Task
 sixteen zero = []
 sixteen (suc n) = task (suc n) 1 ∷ sixteen n
 
-full-example : answers (written (holding (sixteen 16) head48) (replicate bufferBytes 0)) (booking (task 17 1) ∷ []) ≡ 41 ∷ []
-unfolding blank headRefusal firstOf lengthFits isWithin largest tasksFit tasksIn items taskIn fourIn allOk taskOk distinct hasId headOf registersIn wordIn placesIn written recordOf frontOf stateOf joined wordBytes taskBytes fourBytes fits lit railLimit higher met vrefOf hclkOf sysOf dllReading dllHz divided lpsysHclkOf lpsysSysOf verdict decoded recordRefusal coded settled planOf dllOf verdictOf planRefusal legal encoded coreOnAbsentDll1 coreOnDbl96 flashOnAbsentDll usbOnAbsentDll2 usbNot60 dll1CoreTooSlow hclkTooFast pclk1TooFast pclk2TooFast dll2TooFast usbHz sysHz hclkHz pclk1Hz pclk2Hz shifted targetOf usbDivider changeCall performed change peakOf highest modeAt modeOf raise leaveDll1 toHxt48 toPlanned backTo dividers configureDll setDll relocked dllOff dllOn hpbgOn vddpswOn d2sFirst s2dFirst s2dSecond sxModeVolt timing store going delay wait poll loadOf shareOf book release without lpsysRequest request setHdiv dividerFor presentMode requestMode lpsysModeOf lpsysD2sFirst lpsysS2dFirst lpsysS2dSecond
-full-example = refl
+abbrev Full : Type 0
+Full = answers (written (holding (sixteen 16) head48) (replicate bufferBytes 0)) (booking (task 17 1) ∷ []) ≡ 41 ∷ []
+
+-- all of them, by computing what the definitions say
+examples : Fit × (Done × (Refused × Full))
+unfolding blank headRefusal firstOf lengthFits isWithin largest tasksFit tasksIn items taskIn fourIn allOk taskOk distinct
+    hasId headOf registersIn wordIn placesIn written recordOf frontOf stateOf joined wordBytes taskBytes fourBytes
+    fits sourceIsOn railLimit higher met vrefOf hclkOf sysOf dllReading dllHz divided lpsysHclkOf lpsysSysOf verdict decoded
+    recordRefusal coded dllBytesLegal planOf dllOf verdictOf planRefusal legal encoded coreOnAbsentDll1 coreOnDbl96
+    flashOnAbsentDll usbOnAbsentDll2 usbNot60 dll1CoreTooSlow hclkTooFast pclk1TooFast pclk2TooFast dll2TooFast usbHz
+    sysHz hclkHz pclk1Hz pclk2Hz shifted targetOf usbDivider changeCall performed change peakOf highest modeAt modeOf
+    raise leaveDll1 toHxt48 toPlanned backTo dividers configureDll setDll relocked dllOff dllOn hpbgOn vddpswOn
+    d2sFirst s2dFirst s2dSecond sxModeVolt timing store unlessEnded delay wait poll loadOf shareOf book release without
+    lpsysRequest request setHdiv dividerFor presentMode requestMode lpsysModeOf lpsysD2sFirst lpsysS2dFirst
+    lpsysS2dSecond
+examples = ((refl, refl), (refl, (refl, refl)))

@@ -11,7 +11,7 @@ use borrow.Author.Tests.{eq-eqb, ne-eqb}
 use Rattle.task.specs.declared.Task.{Task}
 use Rattle.head.specs.declared.Head.{Head}
 use Rattle.head.specs.Head.{booked}
-use Rattle.head.specs.from_bytes.Record.{bufferBytes, headRefusal, headOf, written}
+use Rattle.head.specs.Record.{bufferBytes, headRefusal, headOf, written}
 use Rattle.head.specs.Encodable.{Encodable}
 use Rattle.head.proofs.from_bytes.Passed.{passed}
 use Rattle.head.proofs.from_bytes.Decoding.{decode-encodable}
@@ -20,7 +20,7 @@ use Rattle.journal.specs.Run.{Run, Effect, begin, replayed}
 use Rattle.journal.proofs.Moments.{Moments, moments-now}
 use Rattle.fit.specs.Fit.{fits}
 use Rattle.call.specs.Call.{Result, refused, finished, performed}
-use Rattle.claim.specs.changes.{headWith, SafeAt}
+use Rattle.claim.specs.Moment.{headWith, SafeAt}
 use Rattle.claim.specs.Claim.{Call, Typed, entriesOf, moment, Safe, after, Asked, Good, FitHead}
 use Rattle.claim.proofs.Heads.{safe}
 use Rattle.claim.proofs.Written.{written-bytes}

@@ -11,12 +11,12 @@ use Rattle.register.specs.Word.{wordBytes}
 use Rattle.register.proofs.Fits.{fits-word}
 use Rattle.task.specs.declared.Task.{Task}
 use Rattle.task.specs.Task.{noTask, InBytes}
-use Rattle.record.specs.four.{fourBytes}
+use Rattle.record.specs.Four.{fourBytes}
 use Rattle.task.specs.bytes.{taskBytes}
 use Rattle.task.proofs.bytes.Laws.{bytes-drop}
 use Rattle.head.specs.declared.Head.{Head}
 use Rattle.head.specs.Head.{booked}
-use Rattle.head.specs.from_bytes.Record.{frontOf, stateOf, recordOf, written}
+use Rattle.head.specs.Record.{frontOf, stateOf, recordOf, written}
 use Rattle.head.specs.Encodable.{Encodable}
 use Rattle.head.proofs.Fields.{state-bytes}
 use Rattle.head.proofs.tasks.Holding.{booked-length}
@@ -54,7 +54,9 @@ four-bytes n (suc (suc (suc (suc i)))) = omega arith
 
 task-bytes : (t : Task) → InBytes t → Bytes (taskBytes t)
 unfolding taskBytes
-task-bytes t x = bytes-cons (t .id) (fourBytes (t .cycles) ++ fourBytes (t .period)) (x .id) (bytes-append (fourBytes (t .cycles)) (fourBytes (t .period)) (four-bytes (t .cycles)) (four-bytes (t .period)))
+task-bytes t x =
+    let numbers = bytes-append (fourBytes (t .cycles)) (fourBytes (t .period)) (four-bytes (t .cycles)) (four-bytes (t .period)) in
+    bytes-cons (t .id) (fourBytes (t .cycles) ++ fourBytes (t .period)) (x .id) numbers
 
 module _ (h : Head) (ok : Encodable h) where
   front : Bytes (frontOf (h .count))

@@ -14,20 +14,21 @@ use Rattle.task.specs.declared.Task.{Task}
 use Rattle.task.specs.Task.{InBytes}
 use Rattle.head.specs.declared.Head.{Head}
 use Rattle.head.specs.Head.{booked}
-use Rattle.head.specs.from_bytes.Record.{headRefusal, headOf}
+use Rattle.head.specs.Record.{headRefusal, headOf}
 use Rattle.clock_read.specs.Hpsys.{reg, hertz, hclkOf}
 use Rattle.journal.specs.Run.{replayed}
 use Rattle.load.specs.Load.{loadOf}
 use Rattle.fit.specs.rail.{railLimit}
-use Rattle.fit.specs.Fit.{lit, fits}
+use Rattle.fit.specs.Fit.{sourceIsOn, fits}
 use Rattle.lpsys_request.specs.Safe.{lpsysHz}
 use Rattle.call.specs.Call.{Result}
 use Rattle.head.specs.tasks.{without}
-use Rattle.claim.specs.changes.{headWith, stopFor}
+use Rattle.claim.specs.Moment.{headWith, stopFor}
 use Rattle.guard.specs.Guard.{changeRefusal, changeCall}
 use Rattle.lpsys_request.specs.frequency.{lpsysRequest}
 use Rattle.booking.specs.Booking.{book}
-use Rattle.booking.specs.release.{release}
+use Rattle.booking.specs.Release.{release}
+use Rattle.register.specs.Numbers.{DLL1, DLL2, FLASH, LOW_POWER, LPSYS_SUPPLY}
 
 -- "guarded changes, bookings, releases and LPSYS requests", with any arguments: a plan's bytes, a journal and answers; a task; an id;
 -- whole MHz and a journal. "answers and journal are each call's own"
@@ -69,12 +70,12 @@ pub record Safe (h : Head) : Type 0 where
   pub reads : hclkOf h ≡ hertz hclk
   pub carried : hclk ≤ railLimit h
   -- "HCLK, the clock the core runs on": where the low-power select, register 10, is 0; else a low-power clock, at most 100,000 Hz
-  pub core : (slow : ℕ) → slow ≤ 100000 → cond (eqb (reg h 10) 0) hclk slow ≤ railLimit h
+  pub core : (slow : ℕ) → slow ≤ 100000 → cond (eqb (reg h LOW_POWER) 0) hclk slow ≤ railLimit h
   -- "LPSYS runs at no more than 24 MHz while on its D supply": "28 LPSYS supply (0 D, 1 S)"
-  pub lpsys : reg h 28 ≡ 0 → lpsysHz (h .regs) ≤ 24000000
+  pub lpsys : reg h LPSYS_SUPPLY ≡ 0 → lpsysHz (h .regs) ≤ 24000000
   -- "and no flash clock is taken from a DLL that is off"
-  pub first-flash : lit (byteB (reg h 5)) (reg h 3) (reg h 4) ≡ true
-  pub second-flash : lit (byteC (reg h 5)) (reg h 3) (reg h 4) ≡ true
+  pub first-flash : sourceIsOn (byteB (reg h FLASH)) (reg h DLL1) (reg h DLL2) ≡ true
+  pub second-flash : sourceIsOn (byteC (reg h FLASH)) (reg h DLL1) (reg h DLL2) ≡ true
 
 -- "Booked are the first head's tasks; a booking done adds its task, a release done takes its id out"; "A booked task goes last"
 abbrev pub after : Call → ℕ → List Task → List Task

@@ -1,3 +1,3 @@
 pub mod Claim
-pub mod changes
+pub mod Moment
 pub mod joined

@@ -3,7 +3,7 @@ use Prim.Native.Nat.{ℕ}
 use mathlib.Core.Path.{_≡_}
 use mathlib.Core.List.{List, [], _∷_}
 use Rattle.head.specs.Head.{booked}
-use Rattle.head.specs.from_bytes.Record.{headOf}
+use Rattle.head.specs.Record.{headOf}
 use Rattle.claim.specs.Claim.{Call, perform, FitHead, Claim}
 use Rattle.claim.specs.declared.joined.Both.{Both}
 

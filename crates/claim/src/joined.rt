@@ -18,7 +18,10 @@ pub fn change_and_book(
     cycles: u32,
     period: u32,
 ) -> Both
-    ensures { λ r. ⌜ Joined (now (buffer .entry)) (changing (now (plan .entry)) (now (journal .entry)) (now (answers .entry))) (booking (record { id = id; cycles = cycles; period = period })) r (now (buffer .exit)) ⌝ }
+    ensures { λ r. ⌜ Joined (now (buffer .entry))
+        (changing (now (plan .entry)) (now (journal .entry)) (now (answers .entry)))
+        (booking (record { id = id; cycles = cycles; period = period }))
+        r (now (buffer .exit)) ⌝ }
 {
     let changed = guard::change(buffer, plan, journal, answers);
     let booked = booking::book(buffer, id, cycles, period);

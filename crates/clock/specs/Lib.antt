@@ -1,2 +1,1 @@
 pub mod Clock
-pub mod clocks

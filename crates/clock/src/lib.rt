@@ -1,20 +1,34 @@
-// rcc/clock.rs: clock constants, DLL and divider arithmetic.
-pub mod clocks;
-
+// rcc/clock.rs: clock constants, the clocks that are read, DLL and divider arithmetic.
 ghost use mathlib.Core.Path.{_≡_};
 ghost use Prim.Native.Nat.{_≤_};
 ghost use Rattle.clock.specs.Clock.{dllHz, divided, shifted};
 use time::Hertz;
+use time::MaybeHertz;
 
 pub const CLK_LRC10_FREQ: Hertz = Hertz(100_000);
 
 pub const CLK_LRC32_FREQ: Hertz = Hertz(32_000);
 
-pub const CLK_LXT32_FREQ: Hertz = Hertz(32_768);
-
-pub const CLK_HRC48_FREQ: Hertz = Hertz(48_000_000);
-
 pub const CLK_HXT48_FREQ: Hertz = Hertz(48_000_000);
+
+// The 15 frequencies of a head, in the order of the source.
+pub struct Clocks {
+    pub sysclk: MaybeHertz,
+    pub hclk: MaybeHertz,
+    pub pclk: MaybeHertz,
+    pub pclk2: MaybeHertz,
+    pub dll1: MaybeHertz,
+    pub dll2: MaybeHertz,
+    pub clk_peri: MaybeHertz,
+    pub clk_peri_div2: MaybeHertz,
+    pub clk_usb: MaybeHertz,
+    pub clk_wdt: MaybeHertz,
+    pub clk_rtc: MaybeHertz,
+    pub clk_mpi1: MaybeHertz,
+    pub clk_mpi2: MaybeHertz,
+    pub clk_aud_pll: MaybeHertz,
+    pub clk_aud_pll_div16: MaybeHertz,
+}
 
 // A DLL's setting: its stage, 0 to 15, and whether its output is halved.
 pub struct Dll {

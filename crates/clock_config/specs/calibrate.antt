@@ -3,7 +3,7 @@ use Prim.Native.Nat.{ℕ}
 use mathlib.Core.Bool.{not}
 use mathlib.Core.List.{List, [], _∷_, _++_}
 use Rattle.record.specs.Refusals.{refuse, firstOf}
-use Rattle.head.specs.from_bytes.Record.{headOf}
+use Rattle.head.specs.Record.{headOf}
 use Rattle.call.specs.Call.{Result, answersTests, performed}
 use Rattle.calibration.specs.Calibration.{calibrateHrc48}
 

@@ -5,7 +5,7 @@ use mathlib.Core.List.{List}
 use lib.Dec.{eqb}
 use lib.ListN.{replicate}
 use Rattle.plan.specs.bytes.{planOf}
-use Rattle.head.specs.from_bytes.Record.{headOf}
+use Rattle.head.specs.Record.{headOf}
 use Rattle.readings.specs.Clocks.{clocksOf}
 use Rattle.journal.specs.Run.{begin}
 use Rattle.call.specs.Call.{Result}

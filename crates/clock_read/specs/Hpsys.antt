@@ -8,6 +8,7 @@ use Rattle.time.specs.declared.Reading.the-variants.{At, Unreadable}
 use Rattle.clock.specs.Clock.{dllHz, divided}
 use Rattle.head.specs.declared.Head.{Head}
 use Rattle.register.specs.Word.{byteA, byteB, byteC}
+use Rattle.register.specs.Numbers.{DLL1, HPSYS_CFGR, SYSCLK}
 
 -- register `n` of a head; "a value without a letter in c", so such a register's value is its whole word
 abbrev pub reg : Head → ℕ → ℕ
@@ -33,11 +34,11 @@ dividedReading Unreadable d = Unreadable
 -- `get_clk_sys_freq`: 0 HRC48, 1 HXT48, 3 DLL1; "DBL96 reads as none"
 unfoldable pub sysOf : Head → Reading
 sysOf h =
-    cond (eqb (reg h 1) 0) (readyReading (h .«hrc48_ready»))
-    (cond (eqb (reg h 1) 1) (readyReading (h .«hxt48_ready»))
-    (cond (eqb (reg h 1) 3) (dllReading (reg h 3))
+    cond (eqb (reg h SYSCLK) 0) (readyReading (h .«hrc48_ready»))
+    (cond (eqb (reg h SYSCLK) 1) (readyReading (h .«hxt48_ready»))
+    (cond (eqb (reg h SYSCLK) 3) (dllReading (reg h DLL1))
     Unreadable))
 
 -- `get_hclk_freq`: hdiv a of register 2
 unfoldable pub hclkOf : Head → Reading
-hclkOf h = dividedReading (sysOf h) (byteA (reg h 2))
+hclkOf h = dividedReading (sysOf h) (byteA (reg h HPSYS_CFGR))

@@ -51,7 +51,7 @@ pub fn get_clk_sys_freq(h: Head) -> Reading
     requires { ⌜ Encodable h ⌝ }
     ensures { λ r. ⌜ r ≡ sysOf h ⌝ }
 {
-    let select = h.regs[1];
+    let select = h.regs[register::SYSCLK];
     if select == 0 {
         return ready_freq(h.hrc48_ready);
     }
@@ -59,7 +59,7 @@ pub fn get_clk_sys_freq(h: Head) -> Reading
         return ready_freq(h.hxt48_ready);
     }
     if select == 3 {
-        return dll_freq(h.regs[3]);
+        return dll_freq(h.regs[register::DLL1]);
     }
     Reading::Unreadable
 }
@@ -68,6 +68,6 @@ pub fn get_hclk_freq(h: Head) -> Reading
     requires { ⌜ Encodable h ⌝ }
     ensures { λ r. ⌜ r ≡ hclkOf h ⌝ }
 {
-    let hdiv = register::a(h.regs[2]) as u8;
+    let hdiv = register::a(h.regs[register::HPSYS_CFGR]) as u8;
     divide(get_clk_sys_freq(h), hdiv)
 }

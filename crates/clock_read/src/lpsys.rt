@@ -3,13 +3,14 @@ ghost use mathlib.Core.Path.{_≡_};
 ghost use Rattle.register.specs.Word.{byteA};
 ghost use Rattle.clock_read.specs.Hpsys.{reg};
 ghost use Rattle.clock_read.specs.lpsys.{sourceReading, lpsysSysOf, lpsysHclkOf};
+ghost use Rattle.register.specs.Numbers.{LPSYS_CFGR};
 use head::Head;
 use time::Reading;
 
 pub fn get_lpsys_hclk_div(h: Head) -> u8
-    ensures { λ r. ⌜ r ≡ byteA (reg h 26) ⌝ }
+    ensures { λ r. ⌜ r ≡ byteA (reg h LPSYS_CFGR) ⌝ }
 {
-    register::a(h.regs[26]) as u8
+    register::a(h.regs[register::LPSYS_CFGR]) as u8
 }
 
 // HRC48 or HXT48 by a select.
@@ -26,7 +27,7 @@ pub fn source_freq(select: u32, h: Head) -> Reading
 pub fn get_lpsys_sysclk_freq(h: Head) -> Reading
     ensures { λ r. ⌜ r ≡ lpsysSysOf h ⌝ }
 {
-    source_freq(h.regs[25], h)
+    source_freq(h.regs[register::LPSYS_SYSCLK], h)
 }
 
 pub fn get_lpsys_hclk_freq(h: Head) -> Reading

@@ -6,7 +6,7 @@ use lib.Dec.{eqb}
 use Rattle.clock.specs.declared.MaybeDll.{MaybeDll}
 use Rattle.clock.specs.declared.MaybeDll.the-variants.{Absent, Present}
 use Rattle.plan.specs.declared.Plan.{Plan}
-use Rattle.register.specs.Word.{bit}
+use Rattle.record.specs.Bytes.{bit}
 use Rattle.clock_read.specs.Hpsys.{reg}
 use Rattle.journal.specs.Run.{Effect, idle, _▸_, store}
 use Rattle.core_clock.specs.dividers.{dividers}

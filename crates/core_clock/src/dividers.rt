@@ -6,12 +6,13 @@ ghost use Rattle.register.specs.Word.{wordOf};
 ghost use Rattle.register.specs.Codes.{fitsRegister};
 ghost use Rattle.journal.specs.Machine.{Lent, Does, none};
 ghost use Rattle.core_clock.specs.dividers.{dividers};
+ghost use Rattle.register.specs.Numbers.{HPSYS_CFGR};
 use journal::Machine;
 use plan::Plan;
 
 fn dividers_word(p: Plan) -> u32
     requires { ⌜ legal p ≡ true ⌝ }
-    ensures { λ r. ⌜ (r ≡ wordOf (p .hdiv) (p .pdiv1) (p .pdiv2)) × (fitsRegister 2 r ≡ true) ⌝ }
+    ensures { λ r. ⌜ (r ≡ wordOf (p .hdiv) (p .pdiv1) (p .pdiv2)) × (fitsRegister HPSYS_CFGR r ≡ true) ⌝ }
 {
     let hdiv = p.hdiv;
     let pdiv1 = p.pdiv1;

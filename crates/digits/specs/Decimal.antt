@@ -22,12 +22,12 @@ spelled n [] = n
 spelled n (b ∷ s) = spelled (n * 10 + (b - 48)) s
 
 -- the number that a text of digits spells, and 0 for a text that is empty or has another byte
-abbrev pub decimalOf : List ℕ → ℕ
-decimalOf s = cond (allDigits s) (spelled 0 s) 0
+abbrev pub spelledBy : List ℕ → ℕ
+spelledBy s = cond (allDigits s) (spelled 0 s) 0
 
 -- the request of a text: its number, or the largest where that does not fit 32 bits
 unfoldable pub requestOf : List ℕ → ℕ
-requestOf s = min (decimalOf s) most
+requestOf s = min (spelledBy s) most
 
 -- the number `n` with the digit `b` after it, or the largest where that does not fit
 abbrev pub longer : ℕ → ℕ → ℕ

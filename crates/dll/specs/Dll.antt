@@ -5,16 +5,17 @@ use mathlib.Core.List.{List}
 use lib.Dec.{eqb}
 use Rattle.clock.specs.declared.Dll.{Dll}
 use Rattle.register.specs.Word.{wordOf, byteB, byteC}
-use Rattle.register.specs.Word.{bit}
+use Rattle.record.specs.Bytes.{bit}
 use Rattle.clock_read.specs.Hpsys.{reg}
 use Rattle.journal.specs.Run.{Effect, idle, _▸_, store, delay, wait}
+use Rattle.register.specs.Numbers.{HPBG}
 
 -- `hpbg_en` b of register 11 is turned on where it is off, then `hpbg_vddpsw_en` c
 unfoldable pub hpbgOn : Effect
-hpbgOn r = cond (eqb (byteB (reg (r .head) 11)) 0) (store 11 (wordOf 0 1 (byteC (reg (r .head) 11)))) idle r
+hpbgOn r = cond (eqb (byteB (reg (r .head) HPBG)) 0) (store HPBG (wordOf 0 1 (byteC (reg (r .head) HPBG)))) idle r
 
 unfoldable pub vddpswOn : Effect
-vddpswOn r = cond (eqb (byteC (reg (r .head) 11)) 0) (store 11 (wordOf 0 (byteB (reg (r .head) 11)) 1)) idle r
+vddpswOn r = cond (eqb (byteC (reg (r .head) HPBG)) 0) (store HPBG (wordOf 0 (byteB (reg (r .head) HPBG)) 1)) idle r
 
 -- a DLL by its register, 3 or 4, "on a, half b, stage c": off, with half and stage as they are
 unfoldable pub dllOff : ℕ → Effect

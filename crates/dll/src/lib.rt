@@ -12,11 +12,15 @@ fn enable_hpbg(m: Machine, journal: &mut [u32]) -> Machine
     ensures { λ r. ⌜ Does 1 hpbgOn m r (now (journal .entry)) (now (journal .exit)) none ⌝ }
 {
     let head = m.head;
-    let old = head.regs[11];
+    let old = head.regs[register::HPBG];
     if register::b(old) != 0 {
         return m;
     }
-    m.store(journal, 11, register::word(0, 1, register::c(old)))
+    m.store(
+        journal,
+        register::HPBG,
+        register::word(0, 1, register::c(old)),
+    )
 }
 
 fn enable_vddpsw(m: Machine, journal: &mut [u32]) -> Machine
@@ -24,11 +28,15 @@ fn enable_vddpsw(m: Machine, journal: &mut [u32]) -> Machine
     ensures { λ r. ⌜ Does 1 vddpswOn m r (now (journal .entry)) (now (journal .exit)) none ⌝ }
 {
     let head = m.head;
-    let old = head.regs[11];
+    let old = head.regs[register::HPBG];
     if register::c(old) != 0 {
         return m;
     }
-    m.store(journal, 11, register::word(0, register::b(old), 1))
+    m.store(
+        journal,
+        register::HPBG,
+        register::word(0, register::b(old), 1),
+    )
 }
 
 // Off, then on with its new setting.

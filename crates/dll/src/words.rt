@@ -2,7 +2,8 @@
 ghost use mathlib.Core.Path.{_≡_};
 ghost use mathlib.Core.Bool.{true};
 ghost use Prim.Native.Nat.{_≤_};
-ghost use Rattle.register.specs.Word.{wordOf, byteB, byteC, bit};
+ghost use Rattle.record.specs.Bytes.{bit};
+ghost use Rattle.register.specs.Word.{wordOf, byteB, byteC};
 ghost use Rattle.register.specs.Codes.{fitsRegister};
 ghost use Rattle.head.specs.Encodable.{Encodable};
 ghost use Rattle.clock_read.specs.Hpsys.{reg};

@@ -7,10 +7,10 @@ use lib.ListN.{getD}
 use Rattle.dvfs.specs.declared.hpsys.HpsysDvfsConfig.{HpsysDvfsConfig}
 use Rattle.dvfs.specs.declared.hpsys.HpsysDvfsMode.{HpsysDvfsMode}
 use Rattle.dvfs.specs.declared.hpsys.HpsysDvfsMode.the-variants.{D0, D1, S0, S1}
-use Rattle.dvfs.specs.Hpsys.{numberOf, rowOf}
+use Rattle.dvfs.specs.Hpsys.{modeNumber, rowOf}
 
 pub row-at : (m : HpsysDvfsMode) (none : HpsysDvfsConfig) →
-    getD (rowOf D0 ∷ rowOf D1 ∷ rowOf S0 ∷ rowOf S1 ∷ []) (numberOf m) none ≡ rowOf m
+    getD (rowOf D0 ∷ rowOf D1 ∷ rowOf S0 ∷ rowOf S1 ∷ []) (modeNumber m) none ≡ rowOf m
 row-at D0 none = refl
 row-at D1 none = refl
 row-at S0 none = refl

@@ -1,10 +1,8 @@
 -- Supply modes and rows of HPSYS, pmu/dvfs.rs. Assumes nothing.
 use Prim.Native.Nat.{ℕ}
 use mathlib.Core.Bool.{cond}
-use mathlib.Core.List.{List, [], _∷_}
 use lib.IntN.{ℤ, pos, negsuc}
 use lib.Dec.{leb}
-use lib.ListN.{getD}
 use Rattle.dvfs.specs.declared.hpsys.HpsysDvfsConfig.{HpsysDvfsConfig}
 use Rattle.dvfs.specs.declared.hpsys.HpsysDvfsMode.{HpsysDvfsMode}
 use Rattle.dvfs.specs.declared.hpsys.HpsysDvfsMode.the-variants.{D0, D1, S0, S1}
@@ -20,11 +18,11 @@ modeOf mhz =
     (cond (leb mhz 240) (Mode S1)
     OutOfRange)))
 
-abbrev pub numberOf : HpsysDvfsMode → ℕ
-numberOf D0 = 0
-numberOf D1 = 1
-numberOf S0 = 2
-numberOf S1 = 3
+abbrev pub modeNumber : HpsysDvfsMode → ℕ
+modeNumber D0 = 0
+modeNumber D1 = 1
+modeNumber S0 = 2
+modeNumber S1 = 3
 
 abbrev row : ℤ → ℕ → ℕ → ℕ → HpsysDvfsConfig
 row offset ldo buck timing = record { «ldo_offset» = offset; ldo = ldo; buck = buck; ulpmcr = timing }

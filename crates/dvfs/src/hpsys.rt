@@ -1,7 +1,7 @@
 // HPSYS: the supply of the core.
 ghost use mathlib.Core.Path.{_≡_};
 ghost use Prim.Native.Nat.{_<_};
-ghost use Rattle.dvfs.specs.Hpsys.{modeOf, numberOf, rowOf};
+ghost use Rattle.dvfs.specs.Hpsys.{modeOf, modeNumber, rowOf};
 ghost use Rattle.time.specs.Frequency.{megahertz};
 ghost use lib.Dec.{eqb};
 ghost use lib.ListN.{getD};
@@ -69,7 +69,7 @@ const HPSYS_DVFS_CONFIG: [HpsysDvfsConfig; 4] = [
 pub fn is_hpsys_dvfs_mode_s(h: Head) -> bool
     ensures { λ r. ⌜ r ≡ eqb (getD (h .regs) 12 0) 0 ⌝ }
 {
-    let supply = h.regs[12];
+    let supply = h.regs[register::HPSYS_SUPPLY];
     supply == 0
 }
 
@@ -100,7 +100,7 @@ impl HpsysDvfsMode {
     }
 
     pub fn number(self) -> usize
-        ensures { λ r. ⌜ (r ≡ numberOf self) × (r < 4) ⌝ }
+        ensures { λ r. ⌜ (r ≡ modeNumber self) × (r < 4) ⌝ }
     {
         match self {
             HpsysDvfsMode::D0 => 0,

@@ -45,7 +45,7 @@ const LPSYS_DVFS_CONFIG: [LpsysDvfsConfig; 2] = [
 pub fn is_lpsys_dvfs_mode_s(h: Head) -> bool
     ensures { λ r. ⌜ r ≡ eqb (getD (h .regs) 28 0) 1 ⌝ }
 {
-    let supply = h.regs[28];
+    let supply = h.regs[register::LPSYS_SUPPLY];
     supply == 1
 }
 

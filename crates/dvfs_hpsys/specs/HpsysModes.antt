@@ -4,7 +4,7 @@ use lib.Dec.{eqb}
 use Rattle.journal.specs.Run.{Effect, idle}
 use Rattle.dvfs.specs.declared.hpsys.HpsysDvfsMode.{HpsysDvfsMode}
 use Rattle.dvfs.specs.declared.hpsys.HpsysDvfsMode.the-variants.{D0, D1, S0, S1}
-use Rattle.dvfs.specs.Hpsys.{numberOf}
+use Rattle.dvfs.specs.Hpsys.{modeNumber}
 use Rattle.dvfs_hpsys.specs.switch.{s2sFirst, d2sFirst, s2dFirst, s2dSecond}
 
 -- a mode of the S supply
@@ -16,7 +16,7 @@ isS S1 = true
 
 -- two modes are the same
 abbrev pub sameMode : HpsysDvfsMode → HpsysDvfsMode → Bool
-sameMode current target = eqb (numberOf current) (numberOf target)
+sameMode current target = eqb (modeNumber current) (modeNumber target)
 
 -- `config_hcpu_dvfs` before and after the clock, by the mode that it comes from and the one that it goes to. To a D mode it goes the same
 -- way from S and from the other D: there the volts fall before the clock, as in the Rust.

@@ -4,6 +4,7 @@ use lib.IntN.{ℤ, pos, negsuc, _+ℤ_}
 use Rattle.journal.specs.Run.{Effect, _▸_, store}
 use Rattle.dvfs.specs.declared.hpsys.HpsysDvfsMode.{HpsysDvfsMode}
 use Rattle.dvfs.specs.Hpsys.{rowOf}
+use Rattle.register.specs.Numbers.{BUCK_VOUT, HPSYS_TIMING, HPSYS_VOUT}
 
 -- a whole number that is not negative
 abbrev pub natural : ℤ → ℕ
@@ -16,8 +17,8 @@ vrefOf target = natural (pos 11 +ℤ rowOf target .«ldo_offset»)
 
 -- `config_hcpu_sx_mode_volt`: the S supply's buck, then its ldo
 unfoldable pub sxModeVolt : HpsysDvfsMode → Effect
-sxModeVolt target = store 13 (rowOf target .buck) ▸ store 14 (rowOf target .ldo)
+sxModeVolt target = store BUCK_VOUT (rowOf target .buck) ▸ store HPSYS_VOUT (rowOf target .ldo)
 
 -- the memory timing of a mode
 unfoldable pub timing : HpsysDvfsMode → Effect
-timing target = store 17 (rowOf target .ulpmcr)
+timing target = store HPSYS_TIMING (rowOf target .ulpmcr)

@@ -17,7 +17,7 @@ pub fn switch_hcpu_dvfs_d2s_first(m: Machine, journal: &mut [u32], target: Hpsys
     ensures { λ r. ⌜ Does 5 (d2sFirst target) m r (now (journal .entry)) (now (journal .exit)) none ⌝ }
 {
     let m = crate::volts::config_hcpu_sx_mode_volt(m, journal, target);
-    let m = m.store(journal, 12, 0);
+    let m = m.store(journal, register::HPSYS_SUPPLY, 0);
     let m = journal::delay_us(m, journal, 250);
     crate::volts::store_timing(m, journal, target)
 }
@@ -27,8 +27,8 @@ pub fn switch_hcpu_dvfs_s2d_first(m: Machine, journal: &mut [u32], target: Hpsys
     ensures { λ r. ⌜ Does 2 (s2dFirst target) m r (now (journal .entry)) (now (journal .exit)) none ⌝ }
 {
     let row = target.get_config();
-    let m = m.store(journal, 15, row.buck as u32);
-    m.store(journal, 16, crate::volts::vref(target))
+    let m = m.store(journal, register::SET_VOUT_M, row.buck as u32);
+    m.store(journal, register::HPSYS_LDO, crate::volts::vref(target))
 }
 
 pub fn switch_hcpu_dvfs_s2d_second(
@@ -40,5 +40,5 @@ pub fn switch_hcpu_dvfs_s2d_second(
     ensures { λ r. ⌜ Does 2 (s2dSecond target) m r (now (journal .entry)) (now (journal .exit)) none ⌝ }
 {
     let m = crate::volts::store_timing(m, journal, target);
-    m.store(journal, 12, 1)
+    m.store(journal, register::HPSYS_SUPPLY, 1)
 }

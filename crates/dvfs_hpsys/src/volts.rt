@@ -19,8 +19,8 @@ pub fn config_hcpu_sx_mode_volt(m: Machine, journal: &mut [u32], target: HpsysDv
     ensures { λ r. ⌜ Does 2 (sxModeVolt target) m r (now (journal .entry)) (now (journal .exit)) none ⌝ }
 {
     let row = target.get_config();
-    let m = m.store(journal, 13, row.buck as u32);
-    m.store(journal, 14, row.ldo as u32)
+    let m = m.store(journal, register::BUCK_VOUT, row.buck as u32);
+    m.store(journal, register::HPSYS_VOUT, row.ldo as u32)
 }
 
 pub fn store_timing(m: Machine, journal: &mut [u32], target: HpsysDvfsMode) -> Machine
@@ -28,5 +28,5 @@ pub fn store_timing(m: Machine, journal: &mut [u32], target: HpsysDvfsMode) -> M
     ensures { λ r. ⌜ Does 1 (timing target) m r (now (journal .entry)) (now (journal .exit)) none ⌝ }
 {
     let row = target.get_config();
-    m.store(journal, 17, row.ulpmcr)
+    m.store(journal, register::HPSYS_TIMING, row.ulpmcr)
 }

@@ -10,7 +10,7 @@ use Rattle.head.specs.declared.Head.{Head}
 use Rattle.clock_read.specs.Hpsys.{reg, hclkOf}
 use Rattle.clock_read.specs.lpsys.{lpsysHclkOf}
 use Rattle.fit.specs.rail.{railLimit}
-use Rattle.fit.specs.Fit.{within, lit, lpsysFit, fits}
+use Rattle.fit.specs.Fit.{within, sourceIsOn, lpsysFit, fits}
 
 -- a test that fails decides, and one that passes leaves it to the rest
 fails : (a b : Bool) → a ≡ false → a && b ≡ false
@@ -33,15 +33,15 @@ module _ (h : Head) where
     carried l = rw e (le-leb (f .0) (railLimit h) l)
 
   module _ (p : within (hclkOf h) (railLimit h) ≡ true) where
-    pub first-dark : lit (byteB (reg h 5)) (reg h 3) (reg h 4) ≡ false → fits h ≡ false
+    pub first-dark : sourceIsOn (byteB (reg h 5)) (reg h 3) (reg h 4) ≡ false → fits h ≡ false
     unfolding fits
     first-dark e = passes _ _ p ∙ fails _ _ e
 
-    module _ (q : lit (byteB (reg h 5)) (reg h 3) (reg h 4) ≡ true) where
-      pub second-dark : lit (byteC (reg h 5)) (reg h 3) (reg h 4) ≡ false → fits h ≡ false
+    module _ (q : sourceIsOn (byteB (reg h 5)) (reg h 3) (reg h 4) ≡ true) where
+      pub second-dark : sourceIsOn (byteC (reg h 5)) (reg h 3) (reg h 4) ≡ false → fits h ≡ false
       unfolding fits
       second-dark e = passes _ _ p ∙ (passes _ _ q ∙ fails _ _ e)
 
-      pub rest : lit (byteC (reg h 5)) (reg h 3) (reg h 4) ≡ true → fits h ≡ lpsysFit (lpsysHclkOf h) (reg h 28)
+      pub rest : sourceIsOn (byteC (reg h 5)) (reg h 3) (reg h 4) ≡ true → fits h ≡ lpsysFit (lpsysHclkOf h) (reg h 28)
       unfolding fits
       rest e = passes _ _ p ∙ (passes _ _ q ∙ passes _ _ e)

@@ -9,6 +9,7 @@ use Rattle.head.specs.declared.Head.{Head}
 use Rattle.clock_read.specs.Hpsys.{reg, hclkOf}
 use Rattle.clock_read.specs.lpsys.{lpsysHclkOf}
 use Rattle.fit.specs.rail.{railLimit}
+use Rattle.register.specs.Numbers.{DLL1, DLL2, FLASH, LPSYS_SUPPLY}
 
 -- a clock reads, and is at most a limit
 abbrev pub within : Reading → ℕ → Bool
@@ -16,8 +17,8 @@ within (At f) limit = leb (f .0) limit
 within Unreadable limit = false
 
 -- a flash select names no DLL that is off: 1 DLL1, 2 DLL2, "on a" of registers 3 and 4
-unfoldable pub lit : ℕ → ℕ → ℕ → Bool
-lit select dll1 dll2 = cond (eqb select 1) (eqb (byteA dll1) 1) (cond (eqb select 2) (eqb (byteA dll2) 1) true)
+unfoldable pub sourceIsOn : ℕ → ℕ → ℕ → Bool
+sourceIsOn select dll1 dll2 = cond (eqb select 1) (eqb (byteA dll1) 1) (cond (eqb select 2) (eqb (byteA dll2) 1) true)
 
 -- "the LPSYS source is ready, and LPSYS HCLK above 24 MHz has supply S": "28 LPSYS supply (0 D, 1 S)"
 abbrev pub lpsysFit : Reading → ℕ → Bool
@@ -29,6 +30,6 @@ lpsysFit Unreadable supply = false
 unfoldable pub fits : Head → Bool
 fits h =
     within (hclkOf h) (railLimit h)
-    && (lit (byteB (reg h 5)) (reg h 3) (reg h 4)
-    && (lit (byteC (reg h 5)) (reg h 3) (reg h 4)
-    && lpsysFit (lpsysHclkOf h) (reg h 28)))
+    && (sourceIsOn (byteB (reg h FLASH)) (reg h DLL1) (reg h DLL2)
+    && (sourceIsOn (byteC (reg h FLASH)) (reg h DLL1) (reg h DLL2)
+    && lpsysFit (lpsysHclkOf h) (reg h LPSYS_SUPPLY)))

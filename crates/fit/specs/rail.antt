@@ -8,6 +8,7 @@ use Rattle.dvfs.specs.declared.hpsys.HpsysDvfsMode.{HpsysDvfsMode}
 use Rattle.dvfs.specs.declared.hpsys.HpsysDvfsMode.the-variants.{D0, D1, S0, S1}
 use Rattle.dvfs.specs.Hpsys.{rowOf, frequencyLimit}
 use Rattle.dvfs_hpsys.specs.volts.{vrefOf}
+use Rattle.register.specs.Numbers.{BUCK_VOUT, HPSYS_LDO, HPSYS_SUPPLY, HPSYS_VOUT, SET_VOUT_M}
 
 -- the clock that a mode's row carries: 24, 48, 144 or 240 MHz
 abbrev pub limitHz : HpsysDvfsMode → ℕ
@@ -33,4 +34,4 @@ abbrev pub railOf : ℕ → ℕ → ℕ → ℕ → ℕ → ℕ
 railOf supply buckS ldoS buckD ldoD = cond (eqb supply 0) (higher S0 S1 buckS ldoS) (higher D0 D1 buckD ldoD)
 
 unfoldable pub railLimit : Head → ℕ
-railLimit h = railOf (reg h 12) (reg h 13) (reg h 14) (reg h 15) (reg h 16)
+railLimit h = railOf (reg h HPSYS_SUPPLY) (reg h BUCK_VOUT) (reg h HPSYS_VOUT) (reg h SET_VOUT_M) (reg h HPSYS_LDO)

@@ -3,15 +3,16 @@ pub mod rail;
 
 ghost use mathlib.Core.Path.{_≡_};
 ghost use Rattle.head.specs.Encodable.{Encodable};
-ghost use Rattle.fit.specs.Fit.{lit, lpsysFit, fits};
+ghost use Rattle.fit.specs.Fit.{sourceIsOn, lpsysFit, fits};
 ghost use Rattle.clock_read.specs.Hpsys.{reg};
 ghost use Rattle.clock_read.specs.lpsys.{lpsysHclkOf};
+ghost use Rattle.register.specs.Numbers.{LPSYS_SUPPLY};
 use head::Head;
 use time::Reading;
 
 // Whether a flash select names no DLL that is off.
-fn is_lit(select: u32, dll1: u32, dll2: u32) -> bool
-    ensures { λ r. ⌜ r ≡ lit select dll1 dll2 ⌝ }
+fn source_is_on(select: u32, dll1: u32, dll2: u32) -> bool
+    ensures { λ r. ⌜ r ≡ sourceIsOn select dll1 dll2 ⌝ }
 {
     if select == 1 {
         return register::a(dll1) == 1;
@@ -24,7 +25,7 @@ fn is_lit(select: u32, dll1: u32, dll2: u32) -> bool
 
 // Whether the LPSYS source is ready, and LPSYS above 24 MHz has supply S.
 fn is_lpsys_fit(h: Head) -> bool
-    ensures { λ r. ⌜ r ≡ lpsysFit (lpsysHclkOf h) (reg h 28) ⌝ }
+    ensures { λ r. ⌜ r ≡ lpsysFit (lpsysHclkOf h) (reg h LPSYS_SUPPLY) ⌝ }
 {
     let Reading::At(f) = clock_read::lpsys::get_lpsys_hclk_freq(h) else {
         return false;
@@ -32,7 +33,7 @@ fn is_lpsys_fit(h: Head) -> bool
     if f.0 <= 24_000_000 {
         return true;
     }
-    h.regs[28] == 1
+    h.regs[register::LPSYS_SUPPLY] == 1
 }
 
 pub fn is_fit(h: Head) -> bool
@@ -47,10 +48,18 @@ pub fn is_fit(h: Head) -> bool
         return false;
     }
     let regs = h.regs;
-    if !is_lit(register::b(regs[5]), regs[3], regs[4]) {
+    if !source_is_on(
+        register::b(regs[register::FLASH]),
+        regs[register::DLL1],
+        regs[register::DLL2],
+    ) {
         return false;
     }
-    if !is_lit(register::c(regs[5]), regs[3], regs[4]) {
+    if !source_is_on(
+        register::c(regs[register::FLASH]),
+        regs[register::DLL1],
+        regs[register::DLL2],
+    ) {
         return false;
     }
     is_lpsys_fit(h)

@@ -58,7 +58,17 @@ pub fn rail_limit(h: Head) -> Hertz
 {
     let regs = h.regs;
     if dvfs::is_hpsys_dvfs_mode_s(h) {
-        return higher(HpsysDvfsMode::S0, HpsysDvfsMode::S1, regs[13], regs[14]);
+        return higher(
+            HpsysDvfsMode::S0,
+            HpsysDvfsMode::S1,
+            regs[register::BUCK_VOUT],
+            regs[register::HPSYS_VOUT],
+        );
     }
-    higher(HpsysDvfsMode::D0, HpsysDvfsMode::D1, regs[15], regs[16])
+    higher(
+        HpsysDvfsMode::D0,
+        HpsysDvfsMode::D1,
+        regs[register::SET_VOUT_M],
+        regs[register::HPSYS_LDO],
+    )
 }

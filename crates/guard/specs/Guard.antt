@@ -4,7 +4,7 @@ use mathlib.Core.List.{List, _∷_, _++_}
 use Rattle.record.specs.Refusals.{firstOf}
 use Rattle.plan.specs.bytes.{planOf}
 use Rattle.verdict.specs.Verdict.{verdict, numberOf}
-use Rattle.head.specs.from_bytes.Record.{headOf}
+use Rattle.head.specs.Record.{headOf}
 use Rattle.call.specs.Call.{Result, answersTests, performed}
 use Rattle.guard_change.specs.Change.{change}
 use Rattle.guard.specs.tests.{guardTests}

@@ -10,22 +10,21 @@ use Rattle.dvfs.specs.declared.hpsys.HpsysDvfsMode.{HpsysDvfsMode}
 use Rattle.core_clock.specs.dividers.{dividers}
 use Rattle.core_clock.specs.CoreClock.{plannedDll1}
 use Rattle.guard_steps.specs.peak.{modeAt, peakOf}
-use Rattle.guard_steps.specs.supply.{raise, settle}
+use Rattle.guard_steps.specs.supply.{raise, targetRails}
 use Rattle.guard_steps.specs.Steps.{leaveDll1, toHxt48, toPlanned, backTo}
 use Rattle.register.specs.Numbers.{FLASH}
 
--- all steps, from the peak and the flash selects as they were; "(4) if the plan has DLL1, `configure_dll1`'s stores, delay and wait;
--- (5) register 2"
+-- (1) to (4), from the peak; "(4) if the plan has DLL1, `configure_dll1`'s stores, delay and wait"
+abbrev pub steps1to4 : HpsysDvfsMode → Plan → List ℕ → Effect
+steps1to4 peak p a = raise peak ▸ leaveDll1 ▸ toHxt48 ▸ plannedDll1 (p .dll1) a
+
+-- (5) to (8), where `w` are the flash selects as they were; "(5) register 2"
+abbrev pub steps5to8 : ℕ → Plan → Effect
+steps5to8 w p = dividers p ▸ toPlanned p ▸ backTo w ▸ targetRails (modeAt (hclkHz p))
+
+-- all steps
 abbrev pub steps : HpsysDvfsMode → ℕ → Plan → List ℕ → Effect
-steps peak w p a =
-    raise peak
-    ▸ leaveDll1
-    ▸ toHxt48
-    ▸ plannedDll1 (p .dll1) a
-    ▸ dividers p
-    ▸ toPlanned p
-    ▸ backTo w
-    ▸ settle (modeAt (hclkHz p))
+steps peak w p a = steps1to4 peak p a ▸ steps5to8 w p
 
 -- the guarded change on a running call: "Nothing else is stored."
 unfoldable pub change : Plan → List ℕ → Effect

@@ -1,3 +1,1 @@
 pub mod Change
-pub mod steps1to4
-pub mod steps5to8

@@ -25,8 +25,8 @@ unfoldable pub raise : HpsysDvfsMode → Effect
 raise peak r = raiseOn peak (r .head) r
 
 -- "(8) buck and ldo of the target's row in its supply's registers, timing, register 12"
-abbrev pub settle : HpsysDvfsMode → Effect
-settle D0 = s2dFirst D0 ▸ s2dSecond D0
-settle D1 = s2dFirst D1 ▸ s2dSecond D1
-settle S0 = sxModeVolt S0 ▸ timing S0 ▸ store HPSYS_SUPPLY 0
-settle S1 = sxModeVolt S1 ▸ timing S1 ▸ store HPSYS_SUPPLY 0
+abbrev pub targetRails : HpsysDvfsMode → Effect
+targetRails D0 = s2dFirst D0 ▸ s2dSecond D0
+targetRails D1 = s2dFirst D1 ▸ s2dSecond D1
+targetRails S0 = sxModeVolt S0 ▸ timing S0 ▸ store HPSYS_SUPPLY 0
+targetRails S1 = sxModeVolt S1 ▸ timing S1 ▸ store HPSYS_SUPPLY 0

@@ -4,6 +4,7 @@ ghost use mathlib.Core.Bool.{true};
 ghost use Prim.Native.Nat.{_<_};
 ghost use Rattle.register.specs.Codes.{fitsRegister};
 ghost use Rattle.guard_steps.specs.flash.{onDll1, away, moved};
+ghost use Rattle.register.specs.Numbers.{FLASH};
 
 const DLL1: u32 = 1;
 
@@ -30,8 +31,8 @@ fn away(select: u32) -> u32
 
 // The selects with Peri in place of DLL1.
 pub fn moved(selects: u32) -> u32
-    requires { ⌜ fitsRegister 5 selects ≡ true ⌝ }
-    ensures { λ r. ⌜ (r ≡ moved selects) × (fitsRegister 5 r ≡ true) ⌝ }
+    requires { ⌜ fitsRegister FLASH selects ≡ true ⌝ }
+    ensures { λ r. ⌜ (r ≡ moved selects) × (fitsRegister FLASH r ≡ true) ⌝ }
 {
     let first = away(register::b(selects));
     let second = away(register::c(selects));

@@ -9,6 +9,7 @@ ghost use Rattle.plan.specs.Plan.{legal};
 ghost use Rattle.register.specs.Codes.{fitsRegister};
 ghost use Rattle.journal.specs.Machine.{Lent, Does, none};
 ghost use Rattle.guard_steps.specs.Steps.{leaveDll1, toHxt48, toPlanned, backTo};
+ghost use Rattle.register.specs.Numbers.{FLASH};
 use journal::Machine;
 use plan::Plan;
 
@@ -53,7 +54,7 @@ pub fn to_planned(m: Machine, journal: &mut [u32], p: Plan) -> Machine
 // Step 7: flash selects that were on DLL1 go back to what they were.
 pub fn back_to(m: Machine, journal: &mut [u32], selects: u32) -> Machine
     requires { ⌜ Lent 1 m (now journal) none ⌝ }
-    requires { ⌜ fitsRegister 5 selects ≡ true ⌝ }
+    requires { ⌜ fitsRegister FLASH selects ≡ true ⌝ }
     ensures { λ r. ⌜ Does 1 (backTo selects) m r (now (journal .entry)) (now (journal .exit)) none ⌝ }
 {
     let were_moved = flash::is_on_dll1(selects);

@@ -25,7 +25,7 @@ fn highest(m: HpsysDvfsMode, n: HpsysDvfsMode) -> HpsysDvfsMode
 }
 
 // The highest mode among the present clock's, D1 and the target's.
-pub fn peak(present: Hertz, target: Hertz) -> HpsysDvfsMode
+pub fn of(present: Hertz, target: Hertz) -> HpsysDvfsMode
     ensures { λ r. ⌜ r ≡ peakOf (present .0) (target .0) ⌝ }
 {
     let high = highest(mode_at(present), HpsysDvfsMode::D1);

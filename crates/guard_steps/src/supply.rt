@@ -2,7 +2,8 @@
 ghost use Rattle.journal.specs.Machine.{Lent, Does, none};
 ghost use Rattle.journal.specs.Run.{store, _▸_};
 ghost use Rattle.dvfs_hpsys.specs.volts.{sxModeVolt, timing};
-ghost use Rattle.guard_steps.specs.supply.{raise, settle};
+ghost use Rattle.guard_steps.specs.supply.{raise, targetRails};
+ghost use Rattle.register.specs.Numbers.{HPSYS_SUPPLY};
 use dvfs::HpsysDvfsMode;
 use journal::Machine;
 
@@ -29,7 +30,7 @@ pub fn raise(m: Machine, journal: &mut [u32], peak: HpsysDvfsMode) -> Machine
 
 fn settle_s(m: Machine, journal: &mut [u32], mode: HpsysDvfsMode) -> Machine
     requires { ⌜ Lent 4 m (now journal) none ⌝ }
-    ensures { λ r. ⌜ Does 4 (sxModeVolt mode ▸ timing mode ▸ store 12 0) m r (now (journal .entry)) (now (journal .exit)) none ⌝ }
+    ensures { λ r. ⌜ Does 4 (sxModeVolt mode ▸ timing mode ▸ store HPSYS_SUPPLY 0) m r (now (journal .entry)) (now (journal .exit)) none ⌝ }
 {
     let m = dvfs_hpsys::volts::config_hcpu_sx_mode_volt(m, journal, mode);
     let m = dvfs_hpsys::volts::store_timing(m, journal, mode);
@@ -37,9 +38,9 @@ fn settle_s(m: Machine, journal: &mut [u32], mode: HpsysDvfsMode) -> Machine
 }
 
 // Step 8: the volts, the timing and the supply of the target's mode.
-pub fn settle(m: Machine, journal: &mut [u32], mode: HpsysDvfsMode) -> Machine
+pub fn target_rails(m: Machine, journal: &mut [u32], mode: HpsysDvfsMode) -> Machine
     requires { ⌜ Lent 4 m (now journal) none ⌝ }
-    ensures { λ r. ⌜ Does 4 (settle mode) m r (now (journal .entry)) (now (journal .exit)) none ⌝ }
+    ensures { λ r. ⌜ Does 4 (targetRails mode) m r (now (journal .entry)) (now (journal .exit)) none ⌝ }
 {
     if mode.number() < FIRST_S {
         let m = dvfs_hpsys::switch::switch_hcpu_dvfs_s2d_first(m, journal, mode);

@@ -8,9 +8,8 @@ use lib.Dec.{eqb}
 use lib.ListN.{length, getD, take, drop, replicate, getD-replicate}
 use lib.Seq.{getD-drop}
 use Rattle.layout.specs.Layout.{hxt48ReadyAt, hrc48ReadyAt, lpsysHxt48ReadyAt, bootModeAt, wakeCountAt, taskCountAt, mostTasks, firstTask, stateSize}
-use Rattle.record.specs.Bytes.{Bytes}
+use Rattle.record.specs.Bytes.{Bytes, bit}
 use Rattle.record.proofs.Lists.{part-by-place}
-use Rattle.register.specs.Word.{bit}
 use Rattle.register.specs.Codes.{fitsRegister}
 use Rattle.register.specs.bytes.{registersIn}
 use Rattle.register.proofs.Fits.{zero-fits}
@@ -20,7 +19,7 @@ use Rattle.task.specs.bytes.{countIn, placesIn}
 use Rattle.head.specs.declared.Head.{Head}
 use Rattle.head.specs.Head.{withRegisters, withReady, withWakeCount, withTasks}
 use Rattle.head.specs.Encodable.{Encodable}
-use Rattle.head.specs.from_bytes.Record.{headOf, blank, stateOf}
+use Rattle.head.specs.Record.{headOf, blank, stateOf}
 
 -- a flag is read from its bit, and written as it was read
 bit-flag : (t : Bool) → eqb (bit t) 1 ≡ t

@@ -20,22 +20,6 @@ stored-same h n v l = getD-set-same (h .regs) n v 0 l
 pub stored-other : (h : Head) (n v k : ℕ) → (k ≡ n → ⊥) → getD (stored h n v .regs) k 0 ≡ getD (h .regs) k 0
 stored-other h n v k e = getD-set-other (h .regs) n k v 0 e
 
--- a head is encodable by its registers, its two bytes and its tasks; the flags do not matter
-pub same-tasks-encodable : {h g : Head} → Encodable h → length (g .regs) ≡ 35 → ((n : ℕ) → n < 35 → fitsRegister n (getD (g .regs) n 0) ≡ true) →
-    g .«boot_mode» < 256 → g .«wake_count» < 256 → g .tasks ≡ h .tasks → g .count ≡ h .count → Encodable g
-same-tasks-encodable e words codes boot wake tasks count = record {
-  words = words;
-  codes = codes;
-  boot = boot;
-  wake = wake;
-  places = rw tasks (e .places);
-  room = rw count (e .room);
-  each = rw (tasks, count) (e .each);
-  apart = rw (tasks, count) (e .apart);
-  inBytes = rw (tasks, count) (e .inBytes);
-  rest = rw (tasks, count) (e .rest);
-}
-
 pub store-encodable : (h : Head) (n v : ℕ) → Encodable h → fitsRegister n v ≡ true → Encodable (stored h n v)
 store-encodable h n v e fits =
     with-registers-encodable e (record { words = length-set (h .regs) n v ∙ e .words; codes = λ k l. at k l (eqb k n) refl })

@@ -1,4 +1,5 @@
 pub mod Head
+pub mod Record
 pub mod Encodable
 pub mod from_bytes
 pub mod tasks

@@ -4,7 +4,7 @@ ghost use Prim.Native.Nat.{_≤_};
 ghost use lib.ListN.{length};
 ghost use Rattle.task.specs.bytes.{countIn};
 ghost use Rattle.layout.specs.Layout.{mostTasks, lengthOf, bufferBytes};
-ghost use Rattle.head.specs.from_bytes.Record.{lengthFits, headRefusal, headOf, blank};
+ghost use Rattle.head.specs.Record.{lengthFits, headRefusal, headOf, blank};
 ghost use Rattle.head.specs.from_bytes.Decodes.{Decodes};
 use crate::Head;
 use task::Task;
@@ -55,7 +55,8 @@ fn refusal(buffer: &[u8]) -> u8
     0
 }
 
-fn blank_head() -> Head
+// What a refused record gives.
+pub fn blank_head() -> Head
     ensures { λ r. ⌜ r ≡ blank ⌝ }
 {
     let none = Task {

@@ -3,9 +3,9 @@ ghost use mathlib.Core.Path.{_≡_};
 ghost use Prim.Native.Nat.{_≤_};
 ghost use lib.ListN.{length};
 ghost use Rattle.record.specs.Items.{laid};
-ghost use Rattle.register.specs.Word.{bit};
+ghost use Rattle.record.specs.Bytes.{bit};
 ghost use Rattle.layout.specs.Layout.{hxt48ReadyAt, mostTasks, bufferBytes};
-ghost use Rattle.head.specs.from_bytes.Record.{frontOf, stateOf, written};
+ghost use Rattle.head.specs.Record.{frontOf, stateOf, written};
 use crate::Head;
 
 // The length and the version.

@@ -2,7 +2,7 @@
 use Prim.Native.Nat.{ℕ}
 use mathlib.Core.Bool.{Bool, cond, _||_}
 use lib.Dec.{eqb}
-use Rattle.journal.specs.Run.{Run, Effect}
+use Rattle.journal.specs.Run.{Effect}
 
 -- "`init` swallows 31 and 33 of its calibration and reports them beside done; 34 and 36 end it."
 abbrev pub isWarning : ℕ → Bool

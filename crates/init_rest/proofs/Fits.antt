@@ -35,12 +35,12 @@ usb-fits v h = value-fits USB_DIVIDER v (simp (le-leb v 7 h))
 -- the selects of a legal plan
 pub source-fits : (p : Plan) → legal p ≡ true → fitsRegister USB_SOURCE (p .usbsel) ≡ true
 unfolding legal encoded isWithin largest
-source-fits p e = value-fits USB_SOURCE (p .usbsel) (simp (le-leb _ 1 (within-at (drop 3 (encoded p)) plan.largest e 13)))
+source-fits p e = value-fits USB_SOURCE (p .usbsel) (simp (le-leb _ 1 (within-at (drop 3 (encoded p)) plan.largestOfPlan e 13)))
 
 pub peri-fits : (p : Plan) → legal p ≡ true → fitsRegister PERI (p .perisel) ≡ true
 unfolding legal encoded isWithin largest
-peri-fits p e = value-fits PERI (p .perisel) (simp (le-leb _ 1 (within-at (drop 3 (encoded p)) plan.largest e 14)))
+peri-fits p e = value-fits PERI (p .perisel) (simp (le-leb _ 1 (within-at (drop 3 (encoded p)) plan.largestOfPlan e 14)))
 
 pub wdt-fits : (p : Plan) → legal p ≡ true → fitsRegister LOW_POWER (p .wdtsel) ≡ true
 unfolding legal encoded isWithin largest
-wdt-fits p e = value-fits LOW_POWER (p .wdtsel) (simp (le-leb _ 1 (within-at (drop 3 (encoded p)) plan.largest e 12)))
+wdt-fits p e = value-fits LOW_POWER (p .wdtsel) (simp (le-leb _ 1 (within-at (drop 3 (encoded p)) plan.largestOfPlan e 12)))

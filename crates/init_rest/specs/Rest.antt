@@ -7,7 +7,8 @@ use Rattle.clock.specs.declared.Dll.{Dll}
 use Rattle.clock.specs.declared.MaybeDll.{MaybeDll}
 use Rattle.clock.specs.declared.MaybeDll.the-variants.{Absent, Present}
 use Rattle.plan.specs.declared.Plan.{Plan}
-use Rattle.register.specs.Word.{byteA, byteB, byteC, bit}
+use Rattle.record.specs.Bytes.{bit}
+use Rattle.register.specs.Word.{byteA, byteB, byteC}
 use Rattle.head.specs.declared.Head.{Head}
 use Rattle.clock_read.specs.Hpsys.{reg}
 use Rattle.journal.specs.Run.{Effect, idle, _▸_, store}

@@ -4,12 +4,12 @@ ghost use mathlib.Core.Bool.{true};
 ghost use Prim.Native.Nat.{_≤_};
 ghost use Rattle.register.specs.Numbers.{FLASH};
 ghost use Rattle.register.specs.Codes.{fitsRegister};
-ghost use Rattle.init_rest.specs.flash.{backTo, flashBack};
+ghost use Rattle.init_rest.specs.flash.{selectBack, flashBack};
 
 const FLASH_DLL2: u32 = 2;
 
 fn back_to(select: u32) -> u32
-    ensures { λ r. ⌜ (r ≡ backTo select) × (r ≤ 2) ⌝ }
+    ensures { λ r. ⌜ (r ≡ selectBack select) × (r ≤ 2) ⌝ }
 {
     if select == FLASH_DLL2 {
         return FLASH_DLL2;

@@ -2,15 +2,14 @@
 -- Assumes nothing.
 use Prim.Native.Nat.{ℕ, _+_, _-_, _≤_}
 use native.Mathlib.Omega.{arith}
-use mathlib.Core.Path.{_≡_, refl, ap, sym, _∙_}
-use mathlib.Core.List.{List, _++_}
-use lib.ListN.{length, take, drop, length-append, length-drop, take-append-drop}
+use mathlib.Core.Path.{_≡_, refl, ap, _∙_}
+use mathlib.Core.List.{List}
+use lib.ListN.{length, take, length-append, length-drop, take-append-drop}
 use lib.Seq.{length-take-le}
 use Rattle.head.specs.declared.Head.{Head}
-use Rattle.head.specs.Encodable.{Encodable}
 use Rattle.journal.specs.declared.Machine.{Machine}
 use Rattle.journal.specs.Run.{Run, Effect, idle, _▸_}
-use Rattle.journal.specs.Machine.{machineOf, Reached, Ran, Ready, Kept, Answers, none, taking, InHand, Took, Lent, Does, DoesWithoutJournal}
+use Rattle.journal.specs.Machine.{machineOf, Reached, Answers, none, taking, InHand, Took, Lent, Does, DoesWithoutJournal}
 use Rattle.journal.proofs.Reached.{ran-then, ran-idle, ran-as}
 
 -- the answers of two functions, one after the other
@@ -104,24 +103,3 @@ takes-none s d = record { ran = d .ran; room = d .room; encodable = d .encodable
 -- a function that is lent no journal, where there is one
 pub beside : {f : Effect} {m m' : Machine} {j : List ℕ} → DoesWithoutJournal f m m' → Does 0 f m m' j j none
 beside d = record { ran = d .ran _; room = omega (arith, d .room); encodable = d .encodable; answers = d .answers }
-
--- While rooms are moved over one at a time: the clauses of the old form, and back.
-pub clauses : {f : Effect} {k : ℕ} {m m' : Machine} {j j' : List ℕ} → Does k f m m' j j' none → Ran f m m' j j' × (Kept k m m' × (m' .taken ≡ m .taken))
-clauses d = (d .ran, (record { room = d .room; encodable = d .encodable }, d .answers))
-
-pub clauses-taking : {f : Effect} {k : ℕ} {m m' : Machine} {j j' a : List ℕ} →
-    Does k f m m' j j' (taking a) → Ran f m m' j j' × (Kept k m m' × (m' .taken ≤ length a))
-clauses-taking d = (d .ran, (record { room = d .room; encodable = d .encodable }, d .answers .0))
-
-pub clauses-beside : {f : Effect} {m m' : Machine} → DoesWithoutJournal f m m' → ((j : List ℕ) → Ran f m m' j j) × (Kept 0 m m' × (m' .taken ≡ m .taken))
-clauses-beside d = (d .ran, (record { room = omega (arith, d .room); encodable = d .encodable }, d .answers))
-
-pub did : {f : Effect} {k : ℕ} {m m' : Machine} {j j' : List ℕ} → Ran f m m' j j' × (Kept k m m' × (m' .taken ≡ m .taken)) → Does k f m m' j j' none
-did p = record { ran = p .0; room = p .1 .0 .room; encodable = p .1 .0 .encodable; answers = p .1 .1 }
-
-pub did-taking : {f : Effect} {k : ℕ} {m m' : Machine} {j j' a : List ℕ} →
-    length a ≤ 4096 → Ran f m m' j j' × (Kept k m m' × (m' .taken ≤ length a)) → Does k f m m' j j' (taking a)
-did-taking h p = record { ran = p .0; room = p .1 .0 .room; encodable = p .1 .0 .encodable; answers = (p .1 .1, h) }
-
-pub lent-as : {k : ℕ} {m : Machine} {j : List ℕ} (x : Answers) → Ready k m j → InHand x m → Lent k m j x
-lent-as x r h = record { room = r .room; encodable = r .encodable; answers = h }

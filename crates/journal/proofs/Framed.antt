@@ -12,7 +12,7 @@ use Rattle.time.specs.declared.Reading.{Reading}
 use Rattle.time.specs.declared.Reading.the-variants.{At, Unreadable}
 use Rattle.clock_read.specs.Hpsys.{hclkOf}
 use Rattle.journal.specs.declared.Machine.{Machine}
-use Rattle.journal.specs.Run.{Run, Effect, idle, _▸_, going, ended, entry, wrote, store, cycles, delayed, delay, Poll, hit, dry, poll, waited, measured, measure}
+use Rattle.journal.specs.Run.{Run, Effect, idle, _▸_, unlessEnded, ended, entry, withEntry, store, cycles, delayed, delay, Poll, readyAfter, neverReady, poll, waited, measured, measure}
 use Rattle.journal.specs.Machine.{Reached, Ran}
 
 -- a run with the entries `es` before its own
@@ -34,11 +34,11 @@ pub framed-cond : {f g : Effect} (t : Bool) → Framed f → Framed g → Framed
 framed-cond true x y = record { appends = x .appends }
 framed-cond false x y = record { appends = y .appends }
 
-pub framed-going : {f : Effect} → Framed f → Framed (going f)
-unfolding going
-framed-going {f} x = record { appends = λ es r. framed-cond (eqb (r .stop) 0) x framed-idle .appends es r }
+pub framed-unless-ended : {f : Effect} → Framed f → Framed (unlessEnded f)
+unfolding unlessEnded
+framed-unless-ended {f} x = record { appends = λ es r. framed-cond (eqb (r .stop) 0) x framed-idle .appends es r }
 
-framed-wrote : (e : ℕ) → Framed (wrote e)
+framed-wrote : (e : ℕ) → Framed (withEntry e)
 framed-wrote e = record { appends = λ es r. rw (append-assoc es (r .entries) (e ∷ [])) }
 
 pub framed-ended : (n taken : ℕ) → Framed (ended n taken)
@@ -46,11 +46,11 @@ framed-ended n taken = record { appends = λ es r. refl }
 
 pub framed-store : (n v : ℕ) → Framed (store n v)
 unfolding store
-framed-store n v = framed-going (record { appends = λ es r. rw (append-assoc es (r .entries) (entry n v ∷ [])) })
+framed-store n v = framed-unless-ended (record { appends = λ es r. rw (append-assoc es (r .entries) (entry n v ∷ [])) })
 
 pub framed-delay : (us : ℕ) → Framed (delay us)
 unfolding delay
-framed-delay us = framed-going (record { appends = λ es r. by (hclkOf (r .head)) .appends es r })
+framed-delay us = framed-unless-ended (record { appends = λ es r. by (hclkOf (r .head)) .appends es r })
   where
     by : (f : Reading) → Framed (delayed f us)
     by (At f) = record { appends = framed-wrote (entry 48 (cycles (f .0) us)) .appends }
@@ -58,15 +58,15 @@ framed-delay us = framed-going (record { appends = λ es r. by (hclkOf (r .head)
 
 pub framed-measure : (a : List ℕ) → Framed (measure a)
 unfolding measure
-framed-measure a = framed-going (record { appends = λ es r. by (poll (drop (r .taken) a)) es r })
+framed-measure a = framed-unless-ended (record { appends = λ es r. by (poll (drop (r .taken) a)) es r })
   where
-    either : (t : Bool) (n : ℕ) → Framed (λ (r : Run). cond t (waited 5 a (hit n) r) (ended 36 (length a) r))
+    either : (t : Bool) (n : ℕ) → Framed (λ (r : Run). cond t (waited 5 a (readyAfter n) r) (ended 36 (length a) r))
     either true n = record { appends = λ es r. rw (append-assoc es (r .entries) (entry 49 (5 * 65536 + n) ∷ [])) }
     either false n = record { appends = λ es r. refl }
 
     by : (q : Poll) (es : List ℕ) (r : Run) → measured a q (framed es r) ≡ framed es (measured a q r)
-    by (hit n) es r = either (leb (r .taken + n + 2) (length a)) (n + 2) .appends es r
-    by dry es r = refl
+    by (readyAfter n) es r = either (leb (r .taken + n + 2) (length a)) (n + 2) .appends es r
+    by neverReady es r = refl
 
 -- a machine that writes from `at` on
 abbrev pub placed : ℕ → Machine → Machine

@@ -3,7 +3,6 @@ pub mod Stores
 pub mod Delays
 pub mod Replay
 pub mod Moments
-pub mod Steps
 pub mod Does
 pub mod Framed
 pub mod Present

@@ -1,6 +1,6 @@
 -- What holds at every moment of a run: before its first entry and after each one. Assumes nothing.
 use Prim.Native.Nat.{ℕ, _+_, _*_, _≤_, _<_}
-use mathlib.Core.Path.{_≡_, refl, ap, sym, _∙_, subst}
+use mathlib.Core.Path.{_≡_, refl, sym, subst}
 use mathlib.Core.Bool.{Bool, true, false, cond}
 use mathlib.Core.List.{List, [], _∷_, _++_}
 use native.Mathlib.Omega.{arith}
@@ -13,7 +13,7 @@ use Rattle.time.specs.declared.Reading.the-variants.{At, Unreadable}
 use Rattle.clock_read.specs.Hpsys.{hclkOf}
 use Rattle.head.specs.declared.Head.{Head}
 use Rattle.head.specs.Head.{stored}
-use Rattle.journal.specs.Run.{Run, Effect, begin, going, entry, wrote, headed, store, cycles, delayed, delay, Poll, hit, dry, poll, waited, wait, replayed}
+use Rattle.journal.specs.Run.{Run, begin, unlessEnded, entry, withEntry, withHead, store, cycles, delayed, delay, Poll, readyAfter, neverReady, poll, waited, wait, replayed}
 use Rattle.journal.proofs.Replay.{Replayed, replays-store, replays-delay, replays-wait}
 
 -- `P` holds of the registers at each moment of the run `r` of a call that got the registers `l`, and the last are the run's
@@ -44,11 +44,11 @@ module _ (P : List ℕ → Type 0) (l : List ℕ) where
 
   -- a store keeps `P` at every moment where it holds of the registers with the value stored
   pub moments-store : (n v : ℕ) → n < 35 → v < 16777216 → (r : Run) → Moments P l r → P (set (r .head .regs) n v) → Moments P l (store n v r)
-  unfolding store going
+  unfolding store unlessEnded
   moments-store n v p q r m now = by (eqb (r .stop) 0) refl
     where
       stored-run : Run
-      stored-run = wrote (entry n v) (headed (stored (r .head) n v) r)
+      stored-run = withEntry (entry n v) (withHead (stored (r .head) n v) r)
 
       by : (t : Bool) → eqb (r .stop) 0 ≡ t → Moments P l (cond t stored-run r)
       by true e =
@@ -58,7 +58,7 @@ module _ (P : List ℕ → Type 0) (l : List ℕ) where
 
   -- a delay stores nothing
   pub moments-delay : (us : ℕ) → (r : Run) → Moments P l r → Moments P l (delay us r)
-  unfolding delay going
+  unfolding delay unlessEnded
   moments-delay us r m = by (eqb (r .stop) 0) refl
     where
       paused : (f : Reading) → hclkOf (r .head) ≡ f → Replayed l (delayed f us r) → Moments P l (delayed f us r)
@@ -74,15 +74,15 @@ module _ (P : List ℕ → Type 0) (l : List ℕ) where
 
   -- a wait stores nothing
   pub moments-wait : (kind : ℕ) (a : List ℕ) (r : Run) → Moments P l r → Moments P l (wait kind a r)
-  unfolding wait going
+  unfolding wait unlessEnded
   moments-wait kind a r m = by (eqb (r .stop) 0) refl
     where
       found : (q : Poll) → Replayed l (waited kind a q r) → Moments P l (waited kind a q r)
-      found (hit n) after = record {
+      found (readyAfter n) after = record {
         each = more-each (r .entries) (entry 49 (kind * 65536 + n)) (m .each) (subst P (sym (after .registers)) (moments-now r m));
         last = after;
       }
-      found dry after = record { each = m .each; last = after }
+      found neverReady after = record { each = m .each; last = after }
 
       by : (t : Bool) → eqb (r .stop) 0 ≡ t → Moments P l (cond t (waited kind a (poll (drop (r .taken) a)) r) r)
       by true e = found (poll (drop (r .taken) a)) (rw e at (replays-wait kind a .keeps l r (m .last)))

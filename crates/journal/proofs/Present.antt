@@ -7,7 +7,7 @@ use lib.Dec.{eqb}
 use lib.ListN.{length, take, take-append-drop}
 use lib.Seq.{length-take-le}
 use Rattle.journal.specs.declared.Machine.{Machine}
-use Rattle.journal.specs.Run.{Run, Effect, going, entry, wrote, headed, store}
+use Rattle.journal.specs.Run.{Run, Effect, unlessEnded, entry, withEntry, withHead, store}
 use Rattle.journal.specs.Machine.{machineOf, Reached, Ran}
 use Rattle.head.specs.Head.{stored}
 
@@ -27,10 +27,10 @@ ran-present {f} {m} {m'} {j} x h = x .does (present m j) j (present-reached m j 
 
 -- a store does not end a call, and starts none that has ended
 store-stop : (n v : ℕ) (r : Run) → store n v r .stop ≡ r .stop
-unfolding store going
+unfolding store unlessEnded
 store-stop n v r = by (eqb (r .stop) 0)
   where
-    by : (t : Bool) → cond t (wrote (entry n v) (headed (stored (r .head) n v) r)) r .stop ≡ r .stop
+    by : (t : Bool) → cond t (withEntry (entry n v) (withHead (stored (r .head) n v) r)) r .stop ≡ r .stop
     by true = refl
     by false = refl
 

@@ -1,27 +1,25 @@
 -- How the code's state follows a run, one entry at a time. Assumes nothing.
-use Prim.Native.Nat.{ℕ, suc, _+_, _<_, _≤_}
+use Prim.Native.Nat.{ℕ, suc, _+_, _<_}
 use mathlib.Core.Path.{_≡_, refl, ap, sym, _∙_, subst}
-use mathlib.Core.Bool.{Bool, true, false}
 use mathlib.Core.List.{List, [], _∷_, _++_, append-assoc}
 use native.Mathlib.Omega.{arith}
 use native.Mathlib.Numerals.{add-one}
-use lib.Dec.{eqb}
 use lib.ListN.{length, set, drop, length-append, length-drop}
 use lib.Seq.{drop-cons, set-append-seam}
 use borrow.Author.Tests.{eq-eqb, ne-eqb}
 use Rattle.head.specs.declared.Head.{Head}
 use Rattle.journal.specs.declared.Machine.{Machine}
-use Rattle.journal.specs.Run.{Run, Effect, idle, going, wrote, headed, _▸_}
+use Rattle.journal.specs.Run.{Run, Effect, idle, unlessEnded, withEntry, withHead, _▸_}
 use Rattle.journal.specs.Machine.{machineOf, Reached, Ran}
 
 -- a call that has ended stays where it is, any other goes on
-pub going-ended : (f : Effect) (r : Run) → (r .stop ≡ 0 → ⊥) → going f r ≡ r
-unfolding going
-going-ended f r e = rw (ne-eqb (r .stop) 0 e)
+pub unless-ended-ended : (f : Effect) (r : Run) → (r .stop ≡ 0 → ⊥) → unlessEnded f r ≡ r
+unfolding unlessEnded
+unless-ended-ended f r e = rw (ne-eqb (r .stop) 0 e)
 
-pub going-on : (f : Effect) (r : Run) → r .stop ≡ 0 → going f r ≡ f r
-unfolding going
-going-on f r e = rw (eq-eqb (r .stop) 0 e)
+pub unless-ended-on : (f : Effect) (r : Run) → r .stop ≡ 0 → unlessEnded f r ≡ f r
+unfolding unlessEnded
+unless-ended-on f r e = rw (eq-eqb (r .stop) 0 e)
 
 -- one entry more in a journal
 next-entry : (es j₀ : List ℕ) (e : ℕ) → length es < length j₀ →
@@ -38,14 +36,18 @@ pub ran-idle : (m : Machine) (j : List ℕ) → Ran idle m m j j
 ran-idle m j = record { does = λ r j₀ at. at }
 
 -- an effect on a call that has ended
-pub ran-ended : (f : Effect) (m : Machine) (j : List ℕ) → (m .stop ≡ 0 → ⊥) → Ran (going f) m m j j
-ran-ended f m j e = record { does = λ r j₀ at. subst (λ (q : Run). Reached q j₀ m j) (sym (going-ended f r (λ z. e (ap (λ (w : Machine). w .stop) (at .machine) ∙ z)))) at }
+pub ran-ended : (f : Effect) (m : Machine) (j : List ℕ) → (m .stop ≡ 0 → ⊥) → Ran (unlessEnded f) m m j j
+ran-ended f m j e = record { does = λ r j₀ at. subst (λ (q : Run). Reached q j₀ m j) (sym (unless-ended-ended f r (λ z. e (ap (λ (w : Machine). w .stop) (at .machine) ∙ z)))) at }
 
 -- an effect that writes one entry
 pub ran-entry : (f : Effect) (m m' : Machine) (j : List ℕ) (e : ℕ) → m .stop ≡ 0 → m .at < length j →
     ((r : Run) → m ≡ machineOf r → (m' ≡ machineOf (f r)) × (f r .entries ≡ r .entries ++ (e ∷ []))) →
-    Ran (going f) m m' j (set j (m .at) e)
-ran-entry f m m' j e z h does = record { does = λ r j₀ at. subst (λ (q : Run). Reached q j₀ m' (set j (m .at) e)) (sym (going-on f r (sym (ap (λ (w : Machine). w .stop) (at .machine)) ∙ z))) (one r j₀ at) }
+    Ran (unlessEnded f) m m' j (set j (m .at) e)
+ran-entry f m m' j e z h does = record {
+  does = λ r j₀ at.
+      let goes = unless-ended-on f r (sym (ap (λ (w : Machine). w .stop) (at .machine)) ∙ z) in
+      subst (λ (q : Run). Reached q j₀ m' (set j (m .at) e)) (sym goes) (one r j₀ at);
+}
   where
     one : (r : Run) (j₀ : List ℕ) → Reached r j₀ m j → Reached (f r) j₀ m' (set j (m .at) e)
     one r j₀ at =
@@ -59,8 +61,8 @@ ran-entry f m m' j e z h does = record { does = λ r j₀ at. subst (λ (q : Run
 
 -- an effect that writes none
 pub ran-quiet : (f : Effect) (m m' : Machine) (j : List ℕ) → m .stop ≡ 0 →
-    ((r : Run) → m ≡ machineOf r → (m' ≡ machineOf (f r)) × (f r .entries ≡ r .entries)) → Ran (going f) m m' j j
-ran-quiet f m m' j z does = record { does = λ r j₀ at. subst (λ (q : Run). Reached q j₀ m' j) (sym (going-on f r (sym (ap (λ (w : Machine). w .stop) (at .machine)) ∙ z))) (none r j₀ at) }
+    ((r : Run) → m ≡ machineOf r → (m' ≡ machineOf (f r)) × (f r .entries ≡ r .entries)) → Ran (unlessEnded f) m m' j j
+ran-quiet f m m' j z does = record { does = λ r j₀ at. subst (λ (q : Run). Reached q j₀ m' j) (sym (unless-ended-on f r (sym (ap (λ (w : Machine). w .stop) (at .machine)) ∙ z))) (none r j₀ at) }
   where
     none : (r : Run) (j₀ : List ℕ) → Reached r j₀ m j → Reached (f r) j₀ m' j
     none r j₀ at = record {
@@ -74,20 +76,20 @@ ran-as {f} {g} {m} {m'} {j} {j'} same x = record { does = λ r j₀ at. subst (�
 
 -- one entry, and nothing else
 pub ran-wrote : (m : Machine) (j : List ℕ) (e : ℕ) → m .stop ≡ 0 → m .at < length j →
-    Ran (going (wrote e)) m (record { head = m .head; at = m .at + 1; taken = m .taken; stop = m .stop }) j (set j (m .at) e)
-ran-wrote m j e z h = ran-entry (wrote e) m _ j e z h does
+    Ran (unlessEnded (withEntry e)) m (record { head = m .head; at = m .at + 1; taken = m .taken; stop = m .stop }) j (set j (m .at) e)
+ran-wrote m j e z h = ran-entry (withEntry e) m _ j e z h does
   where
     does : (r : Run) → m ≡ machineOf r →
-        (_≡_ {A = Machine} (record { head = m .head; at = m .at + 1; taken = m .taken; stop = m .stop }) (machineOf (wrote e r))) ×
+        (_≡_ {A = Machine} (record { head = m .head; at = m .at + 1; taken = m .taken; stop = m .stop }) (machineOf (withEntry e r))) ×
         (r .entries ++ (e ∷ []) ≡ r .entries ++ (e ∷ []))
     does r q = (rw q (simp length-append), refl)
 
 -- another head, and no entry
-pub ran-headed : (f : Head → Head) (m : Machine) (j : List ℕ) → m .stop ≡ 0 →
-    Ran (going (λ (r : Run). headed (f (r .head)) r)) m (record { head = f (m .head); at = m .at; taken = m .taken; stop = 0 }) j j
-ran-headed f m j z = ran-quiet (λ (r : Run). headed (f (r .head)) r) m _ j z does
+pub ran-with-head : (f : Head → Head) (m : Machine) (j : List ℕ) → m .stop ≡ 0 →
+    Ran (unlessEnded (λ (r : Run). withHead (f (r .head)) r)) m (record { head = f (m .head); at = m .at; taken = m .taken; stop = 0 }) j j
+ran-with-head f m j z = ran-quiet (λ (r : Run). withHead (f (r .head)) r) m _ j z does
   where
     does : (r : Run) → m ≡ machineOf r →
-        (_≡_ {A = Machine} (record { head = f (m .head); at = m .at; taken = m .taken; stop = 0 }) (machineOf (headed (f (r .head)) r))) ×
+        (_≡_ {A = Machine} (record { head = f (m .head); at = m .at; taken = m .taken; stop = 0 }) (machineOf (withHead (f (r .head)) r))) ×
         (r .entries ≡ r .entries)
     does r q = (rw (← z, q), refl)

@@ -21,18 +21,8 @@ pub record Ran (f : Effect) (m m' : Machine) (j j' : List ℕ) : Type 0 where
   pub does : (r : Run) (j₀ : List ℕ) → Reached r j₀ m j → Reached (f r) j₀ m' j'
 
 -- the same of code that is lent no journal
-abbrev pub Quietly : Effect → Machine → Machine → Type 0
-Quietly f m m' = (j : List ℕ) → Ran f m m' j j
-
--- a machine with room for `k` entries more and a head that its record holds
-pub record Ready (k : ℕ) (m : Machine) (j : List ℕ) : Type 0 where
-  pub room : m .at + k ≤ length j
-  pub encodable : Encodable (m .head)
-
--- at most `k` entries were written, and the head is still one that its record holds
-pub record Kept (k : ℕ) (m m' : Machine) : Type 0 where
-  pub room : m' .at ≤ m .at + k
-  pub encodable : Encodable (m' .head)
+abbrev pub RanWithoutJournal : Effect → Machine → Machine → Type 0
+RanWithoutJournal f m m' = (j : List ℕ) → Ran f m m' j j
 
 -- the answers that a function over the machine may take: none, or those of a lent list
 pub data Answers : Type 0 where
@@ -71,7 +61,7 @@ pub record Does (k : ℕ) (f : Effect) (m m' : Machine) (j j' : List ℕ) (a : A
 
 -- the same of a function that is lent no journal: it writes no entry and takes no answer
 pub record DoesWithoutJournal (f : Effect) (m m' : Machine) : Type 0 where
-  pub ran : Quietly f m m'
+  pub ran : RanWithoutJournal f m m'
   pub room : m' .at ≤ m .at
   pub encodable : Encodable (m' .head)
   pub answers : m' .taken ≡ m .taken

@@ -1,6 +1,6 @@
 -- A call on a head as it runs, and the three things that it can do: store, delay, wait. Assumes nothing.
 use Prim.Native.Nat.{ℕ, _+_, _*_, _/_, _%_}
-use mathlib.Core.Bool.{Bool, true, false, cond}
+use mathlib.Core.Bool.{true, cond}
 use mathlib.Core.List.{List, [], _∷_, _++_}
 use lib.Dec.{eqb, leb, ltb}
 use lib.ListN.{length, drop, set}
@@ -35,8 +35,8 @@ abbrev pub idle : Effect
 idle r = r
 
 -- a call that has ended does nothing more
-unfoldable pub going : Effect → Effect
-going f r = cond (eqb (r .stop) 0) (f r) r
+unfoldable pub unlessEnded : Effect → Effect
+unlessEnded f r = cond (eqb (r .stop) 0) (f r) r
 
 -- the refusal `n` ends the call, with `taken` answers taken in all; stores made so far are kept
 abbrev pub ended : ℕ → ℕ → Effect
@@ -44,23 +44,23 @@ ended n taken r = record { entries = r .entries; head = r .head; taken = taken; 
 
 -- the refusal `n` ends the call where it is
 unfoldable pub halted : ℕ → Effect
-halted n = going (λ (r : Run). ended n (r .taken) r)
+halted n = unlessEnded (λ (r : Run). ended n (r .taken) r)
 
 -- "An entry is number × 16,777,216 plus the 24-bit value"
 abbrev pub entry : ℕ → ℕ → ℕ
 entry number value = number * 16777216 + value
 
 -- one entry more
-abbrev pub wrote : ℕ → Effect
-wrote e r = record { entries = r .entries ++ (e ∷ []); head = r .head; taken = r .taken; stop = r .stop }
+abbrev pub withEntry : ℕ → Effect
+withEntry e r = record { entries = r .entries ++ (e ∷ []); head = r .head; taken = r .taken; stop = r .stop }
 
 -- another head
-abbrev pub headed : Head → Effect
-headed h r = record { entries = r .entries; head = h; taken = r .taken; stop = r .stop }
+abbrev pub withHead : Head → Effect
+withHead h r = record { entries = r .entries; head = h; taken = r .taken; stop = r .stop }
 
 -- a store of `v` in register `n`: "one Rust `modify` or `write_value` is one store"
 unfoldable pub store : ℕ → ℕ → Effect
-store n v = going (λ (r : Run). wrote (entry n v) (headed (stored (r .head) n v) r))
+store n v = unlessEnded (λ (r : Run). withEntry (entry n v) (withHead (stored (r .head) n v) r))
 
 -- a delay in cycles of the core, rounded down, lib.rs `cortex_m_blocking_delay_us`: "Number 48 is a delay, its value the cycles"
 abbrev pub cycles : ℕ → ℕ → ℕ
@@ -68,71 +68,71 @@ cycles hz us = hz * us / 1000000
 
 -- "34 HCLK unreadable at a delay"
 abbrev pub delayed : Reading → ℕ → Effect
-delayed (At f) us r = wrote (entry 48 (cycles (f .0) us)) r
+delayed (At f) us r = withEntry (entry 48 (cycles (f .0) us)) r
 delayed Unreadable us r = ended 34 (r .taken) r
 
 unfoldable pub delay : ℕ → Effect
-delay us = going (λ (r : Run). delayed (hclkOf (r .head)) us r)
+delay us = unlessEnded (λ (r : Run). delayed (hclkOf (r .head)) us r)
 
 -- what polling finds in a list of answers: how many are taken up to the first that is ready and with it, or that none is ready;
 -- "Answers are 16-bit words lent by the caller ..: 0 not ready, else ready"
 pub data Poll : Type 0 where
-  hit : ℕ → Poll
-  dry : Poll
+  readyAfter : ℕ → Poll
+  neverReady : Poll
 
 abbrev pub more : Poll → Poll
-more (hit n) = hit (n + 1)
-more dry = dry
+more (readyAfter n) = readyAfter (n + 1)
+more neverReady = neverReady
 
 unfoldable pub poll : List ℕ → Poll
-poll [] = dry
-poll (x ∷ a) = cond (eqb x 0) (more (poll a)) (hit 1)
+poll [] = neverReady
+poll (x ∷ a) = cond (eqb x 0) (more (poll a)) (readyAfter 1)
 
 -- "Number 49 is a wait that ended: a is its kind .., b and c the answers taken"; "36 answers run out in a wait", "one that 36 cuts short
 -- has no entry", and all answers are taken then
 abbrev pub waited : ℕ → List ℕ → Poll → Effect
-waited kind a (hit n) r = record {
+waited kind a (readyAfter n) r = record {
   entries = r .entries ++ (entry 49 (kind * 65536 + n) ∷ []);
   head = r .head;
   taken = r .taken + n;
   stop = r .stop;
 }
-waited kind a dry r = ended 36 (length a) r
+waited kind a neverReady r = ended 36 (length a) r
 
 -- a wait of some kind, with the answers `a` lent to the call
 unfoldable pub wait : ℕ → List ℕ → Effect
-wait kind a = going (λ (r : Run). waited kind a (poll (drop (r .taken) a)) r)
+wait kind a = unlessEnded (λ (r : Run). waited kind a (poll (drop (r .taken) a)) r)
 
 -- the HXT48 ready flag, and that of LPSYS, set to 1
 abbrev pub withHxt48 : Head → Head
 withHxt48 h = withReady true (h .«hrc48_ready») (h .«lpsys_hxt48_ready») h
 
 abbrev pub hxt48On : Effect
-hxt48On r = headed (withHxt48 (r .head)) r
+hxt48On r = withHead (withHxt48 (r .head)) r
 
 abbrev pub withLpsysHxt48 : Head → Head
 withLpsysHxt48 h = withReady (h .«hxt48_ready») (h .«hrc48_ready») true h
 
 abbrev pub lpsysHxt48On : Effect
-lpsysHxt48On r = headed (withLpsysHxt48 (r .head)) r
+lpsysHxt48On r = withHead (withLpsysHxt48 (r .head)) r
 
 -- "Kinds 1 and 2 take none when the ready flag is already 1, and set it."
 unfoldable pub waitHxt48 : List ℕ → Effect
 waitHxt48 a r =
-    cond (r .head .«hxt48_ready») (going (wrote (entry 49 65536)) r) ((wait 1 a ▸ going hxt48On) r)
+    cond (r .head .«hxt48_ready») (unlessEnded (withEntry (entry 49 65536)) r) ((wait 1 a ▸ unlessEnded hxt48On) r)
 
 unfoldable pub waitLpsysHxt48 : List ℕ → Effect
 waitLpsysHxt48 a r =
-    cond (r .head .«lpsys_hxt48_ready») (going (wrote (entry 49 131072)) r) ((wait 2 a ▸ going lpsysHxt48On) r)
+    cond (r .head .«lpsys_hxt48_ready») (unlessEnded (withEntry (entry 49 131072)) r) ((wait 2 a ▸ unlessEnded lpsysHxt48On) r)
 
 -- kind 5: "a finished measurement takes two more, hxt_cnt and hrc_cnt", its count "a measurement's two included"; "36 answers run out in
 -- a .. measurement"
 abbrev pub measured : List ℕ → Poll → Effect
-measured a (hit n) r = cond (leb (r .taken + n + 2) (length a)) (waited 5 a (hit (n + 2)) r) (ended 36 (length a) r)
-measured a dry r = ended 36 (length a) r
+measured a (readyAfter n) r = cond (leb (r .taken + n + 2) (length a)) (waited 5 a (readyAfter (n + 2)) r) (ended 36 (length a) r)
+measured a neverReady r = ended 36 (length a) r
 
 unfoldable pub measure : List ℕ → Effect
-measure a = going (λ (r : Run). measured a (poll (drop (r .taken) a)) r)
+measure a = unlessEnded (λ (r : Run). measured a (poll (drop (r .taken) a)) r)
 
 -- a store's entry put into the registers; a delay's and a wait's change nothing
 unfoldable pub applied : List ℕ → ℕ → List ℕ

@@ -6,7 +6,7 @@ ghost use mathlib.Core.Bool.{true};
 ghost use Prim.Native.Nat.{_<_, _≤_};
 ghost use Rattle.register.specs.Codes.{fitsRegister};
 ghost use Rattle.head.specs.Encodable.{Encodable};
-ghost use Rattle.journal.specs.Run.{cycles as cyclesOf, going, wrote, halted, store, delay};
+ghost use Rattle.journal.specs.Run.{cycles as cyclesOf, unlessEnded, withEntry, halted, store, delay};
 ghost use Rattle.journal.specs.Machine.{Lent, Does, DoesWithoutJournal, none};
 use head::Head;
 use time::Hertz;
@@ -47,7 +47,7 @@ impl Machine {
     // Writes an entry that is no store.
     pub fn write(self, journal: &mut [u32], word: u32) -> Machine
         requires { ⌜ Lent 1 self (now journal) none ⌝ }
-        ensures { λ r. ⌜ Does 1 (going (wrote word)) self r (now (journal .entry)) (now (journal .exit)) none ⌝ }
+        ensures { λ r. ⌜ Does 1 (unlessEnded (withEntry word)) self r (now (journal .entry)) (now (journal .exit)) none ⌝ }
     {
         let head = self.head;
         let mut at = self.at;

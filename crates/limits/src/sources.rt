@@ -1,6 +1,6 @@
 // Tests 4 to 8 of `ConfigBuilder::check`: a source that the plan does not have. One function each.
 ghost use mathlib.Core.Path.{_≡_};
-ghost use Rattle.limits.specs.sources.{isAbsent, coreOnAbsentDll1, coreOnDbl96, flashOnAbsentDll, usbOnAbsentDll2};
+ghost use Rattle.limits.specs.Limits.{isAbsent, coreOnAbsentDll1, coreOnDbl96, flashOnAbsentDll, usbOnAbsentDll2};
 use clock::MaybeDll;
 use plan::Plan;
 

@@ -17,8 +17,8 @@ use Rattle.load.specs.declared.check.Checked.{Checked}
 abbrev pub listedSize : ℕ
 listedSize = 9
 
-unfoldable pub listed : List ℕ → List Task
-listed b = items taskIn listedSize (length b / listedSize) b
+unfoldable pub listedTasks : List ℕ → List Task
+listedTasks b = items taskIn listedSize (length b / listedSize) b
 
 -- "1 (not nine each), 41, 16, 40 in that order"
 unfoldable pub checkRefusal : List ℕ → ℕ
@@ -26,13 +26,13 @@ checkRefusal b =
     firstOf
     (refuse 1 (not (eqb (length b % listedSize) 0)) ∷
     refuse 41 (ltb mostTasks (length b / listedSize)) ∷
-    refuse 16 (not (allOk (listed b))) ∷
-    refuse 40 (not (distinct (listed b))) ∷ [])
+    refuse 16 (not (allOk (listedTasks b))) ∷
+    refuse 40 (not (distinct (listedTasks b))) ∷ [])
 
 -- "The load check on such bytes answers the load, or" the refusal
 unfoldable pub loadCheck : List ℕ → Checked
-loadCheck b = cond (eqb (checkRefusal b) 0) (record { refusal = 0; load = loadOf (listed b) }) (record { refusal = checkRefusal b; load = 0 })
+loadCheck b = cond (eqb (checkRefusal b) 0) (record { refusal = 0; load = loadOf (listedTasks b) }) (record { refusal = checkRefusal b; load = 0 })
 
 -- "It gets a 64-bit number: .., the top bit set on a refusal of the load check."
-unfoldable pub wordOf : Checked → ℕ
-wordOf c = cond (eqb (c .refusal) 0) (c .load) (9223372036854775808 + c .refusal)
+unfoldable pub checkWord : Checked → ℕ
+checkWord c = cond (eqb (c .refusal) 0) (c .load) (9223372036854775808 + c .refusal)

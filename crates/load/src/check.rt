@@ -1,6 +1,6 @@
 // The load check: the load of a list of tasks, lent as bytes.
 ghost use mathlib.Core.Path.{_≡_};
-ghost use Rattle.load.specs.check.{loadCheck, wordOf};
+ghost use Rattle.load.specs.check.{loadCheck, checkWord};
 
 // A task of the list has so many bytes, whatever it has in a head.
 const LISTED_SIZE: usize = 9;
@@ -27,22 +27,23 @@ pub fn load_check(bytes: &[u8]) -> Checked
     if layout::MOST_TASKS < count {
         return refused(41);
     }
-    // Added up before the tests, which the processor makes while it waits for the divisions.
-    let tasks = task::bytes::tasks_at(bytes, 0, LISTED_SIZE, count);
-    let load = crate::load(tasks, count);
     if !task::list::all_ok(bytes, LISTED_SIZE, count) {
         return refused(16);
     }
     if !task::list::distinct(bytes, LISTED_SIZE, count) {
         return refused(40);
     }
-    Checked { refusal: 0, load }
+    let tasks = task::bytes::tasks_at(bytes, 0, LISTED_SIZE, count);
+    Checked {
+        refusal: 0,
+        load: crate::load(tasks, count),
+    }
 }
 
 impl Checked {
     // The load, or the refusal with the top bit set.
     pub fn word(self) -> u64
-        ensures { λ r. ⌜ r ≡ wordOf self ⌝ }
+        ensures { λ r. ⌜ r ≡ checkWord self ⌝ }
     {
         if self.refusal != 0 {
             return 9223372036854775808 + self.refusal as u64;

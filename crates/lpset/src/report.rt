@@ -1,8 +1,8 @@
 // What `lpset` writes.
-use clock::clocks::MaybeHertz;
 use digits::hex::six_digits;
 use libc::STDERR_FILENO;
 use libc::STDOUT_FILENO;
+use time::MaybeHertz;
 
 fn say(text: &[u8]) {
     io::write_all(STDOUT_FILENO, text);

@@ -6,7 +6,7 @@ use Rattle.time.specs.declared.Reading.{Reading}
 use Rattle.time.specs.declared.Reading.the-variants.{At, Unreadable}
 use Rattle.time.specs.Frequency.{hzOr}
 use Rattle.record.specs.Refusals.{refuse}
-use Rattle.head.specs.from_bytes.Record.{headOf}
+use Rattle.head.specs.Record.{headOf}
 use Rattle.clock_read.specs.lpsys.{lpsysHclkOf}
 use Rattle.call.specs.Call.{Result, journalCall}
 use Rattle.lpsys_tests.specs.Tests.{requestRefusal}

@@ -2,7 +2,7 @@
 use Prim.Native.Nat.{ℕ, _+_, _%_}
 use Rattle.head.specs.declared.Head.{Head}
 use Rattle.head.specs.Head.{withWakeCount}
-use Rattle.journal.specs.Run.{Run, Effect, going, headed}
+use Rattle.journal.specs.Run.{Run, Effect, unlessEnded, withHead}
 
 -- another wake count
 abbrev pub counted : ℕ → Head → Head
@@ -10,7 +10,7 @@ counted n h = withWakeCount n h
 
 -- "The count wraps at 8 bits."
 unfoldable pub countUp : Effect
-countUp = going (λ (r : Run). headed (counted ((r .head .«wake_count» + 1) % 256) (r .head)) r)
+countUp = unlessEnded (λ (r : Run). withHead (counted ((r .head .«wake_count» + 1) % 256) (r .head)) r)
 
 unfoldable pub countDown : Effect
-countDown = going (λ (r : Run). headed (counted ((r .head .«wake_count» + 255) % 256) (r .head)) r)
+countDown = unlessEnded (λ (r : Run). withHead (counted ((r .head .«wake_count» + 255) % 256) (r .head)) r)

@@ -61,7 +61,7 @@ fn put_hpsys(head: Head, line: &mut Line)
     put_reading(clock_read::get_hclk_freq(head), line, HCLK);
     put_hertz(fit::rail::rail_limit(head), line, RAIL);
     put_supply(dvfs::is_hpsys_dvfs_mode_s(head), line, SUPPLY);
-    let flash = head.regs[5];
+    let flash = head.regs[register::FLASH];
     crate::store::put_source(register::b(flash), line, FLASH1);
     crate::store::put_source(register::c(flash), line, FLASH2);
 }

@@ -3,8 +3,8 @@ use Prim.Native.Nat.{ℕ}
 use mathlib.Core.List.{List, [], _∷_}
 use mathlib.Core.Bool.{Bool}
 use lib.ListN.{drop}
-use Rattle.record.specs.Bytes.{isWithin}
-use Rattle.plan.specs.Code.{largest, bit, presentOf, stageOf, halfOf}
+use Rattle.record.specs.Bytes.{isWithin, bit}
+use Rattle.plan.specs.Code.{largestOfPlan, presentOf, stageOf, halfOf}
 use Rattle.plan.specs.declared.Plan.{Plan}
 
 -- the 20 bytes of a plan
@@ -34,4 +34,4 @@ encoded p =
 
 -- a plan value whose fields lie within their codes
 unfoldable pub legal : Plan → Bool
-legal p = isWithin (drop 3 (encoded p)) largest
+legal p = isWithin (drop 3 (encoded p)) largestOfPlan

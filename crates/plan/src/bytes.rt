@@ -1,7 +1,7 @@
 // The plan record, as bytes and as a value.
 ghost use mathlib.Core.Path.{_≡_};
 ghost use lib.ListN.{length};
-ghost use Rattle.plan.specs.Plan.{encoded, legal};
+ghost use Rattle.plan.specs.Plan.{encoded};
 ghost use Rattle.plan.specs.bytes.{planOf, decoded, defaultRecord, sysclkRecord};
 use crate::Plan;
 use clock::Dll;
@@ -47,7 +47,7 @@ pub fn decode(bytes: &[u8]) -> Decoded
     Decoded::Read(fields(bytes))
 }
 
-// The record of a plan.
+// The record of a plan. No call gives one; `decode` and it are proved to undo each other.
 pub fn encode(p: Plan) -> [u8; 20]
     ensures { λ r. ⌜ r ≡ encoded p ⌝ }
 {
@@ -75,14 +75,6 @@ pub fn encode(p: Plan) -> [u8; 20]
         p.mpi1sel,
         p.mpi2sel,
     ]
-}
-
-// Whether each field lies within its codes, as those of a decoded plan do.
-pub fn is_legal(p: Plan) -> bool
-    ensures { λ r. ⌜ r ≡ legal p ⌝ }
-{
-    let record = encode(p);
-    record::within(&record[3..], &crate::codes::LARGEST)
 }
 
 // `ConfigBuilder::new` and `default`.

@@ -1,8 +1,9 @@
 // The codes of a plan record's bytes.
 ghost use mathlib.Core.Path.{_≡_};
 ghost use lib.ListN.{length};
-ghost use Rattle.plan.specs.Code.{bit, presentOf, stageOf, halfOf};
-ghost use Rattle.plan.specs.codes.{settled, coded, dllOf};
+ghost use Rattle.record.specs.Bytes.{bit};
+ghost use Rattle.plan.specs.Code.{presentOf, stageOf, halfOf};
+ghost use Rattle.plan.specs.codes.{dllBytesLegal, coded, dllOf};
 use clock::Dll;
 use clock::MaybeDll;
 
@@ -10,8 +11,8 @@ use clock::MaybeDll;
 pub const LARGEST: [u8; 17] = [3, 255, 7, 7, 1, 15, 1, 1, 15, 1, 1, 1, 1, 1, 1, 2, 2];
 
 // Whether a DLL's three bytes are a present DLL's, or an absent one's with nothing set.
-fn is_settled(present: u8, stage: u8, half: u8) -> bool
-    ensures { λ r. ⌜ r ≡ settled present stage half ⌝ }
+fn dll_bytes_legal(present: u8, stage: u8, half: u8) -> bool
+    ensures { λ r. ⌜ r ≡ dllBytesLegal present stage half ⌝ }
 {
     if present == 1 {
         return true;
@@ -30,10 +31,10 @@ pub fn is_coded(bytes: &[u8]) -> bool
     if !record::within(&bytes[3..], &LARGEST) {
         return false;
     }
-    if !is_settled(bytes[7], bytes[8], bytes[9]) {
+    if !dll_bytes_legal(bytes[7], bytes[8], bytes[9]) {
         return false;
     }
-    is_settled(bytes[10], bytes[11], bytes[12])
+    dll_bytes_legal(bytes[10], bytes[11], bytes[12])
 }
 
 // A DLL of its three bytes.

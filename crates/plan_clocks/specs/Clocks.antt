@@ -2,7 +2,6 @@
 use Prim.Native.Nat.{ℕ, _/_}
 use mathlib.Core.Bool.{cond}
 use lib.Dec.{eqb}
-use Rattle.clock.specs.declared.Dll.{Dll}
 use Rattle.clock.specs.declared.MaybeDll.{MaybeDll}
 use Rattle.clock.specs.declared.MaybeDll.the-variants.{Absent, Present}
 use Rattle.clock.specs.Clock.{wholeHz, dllHz, divided, shifted}

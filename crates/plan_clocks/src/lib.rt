@@ -112,10 +112,3 @@ pub fn target_from(p: Plan, sources: Sources) -> Target
         usb_div: usb_divider(p.usb, source),
     }
 }
-
-pub fn target_of(p: Plan) -> Target
-    requires { ⌜ (stageOf (p .dll1) ≤ 15) × (stageOf (p .dll2) ≤ 15) ⌝ }
-    ensures { λ r. ⌜ r ≡ targetOf p ⌝ }
-{
-    target_from(p, sources_of(p))
-}

@@ -3,15 +3,16 @@ use Prim.Native.Nat.{ℕ}
 use mathlib.Core.Bool.{cond}
 use mathlib.Core.List.{List, [], _∷_}
 use lib.Dec.{eqb}
-use Rattle.clock.specs.clocks.{maybe}
-use Rattle.clock.specs.declared.clocks.Clocks.{Clocks}
+use Rattle.time.specs.MaybeHertz.{maybe}
+use Rattle.clock.specs.declared.Clocks.{Clocks}
 use Rattle.head.specs.declared.Head.{Head}
 use Rattle.register.specs.Word.{byteB, byteC}
-use Rattle.head.specs.from_bytes.Record.{headRefusal, headOf}
+use Rattle.head.specs.Record.{headRefusal}
 use Rattle.clock_read.specs.Hpsys.{reg, dllReading, sysOf, hclkOf}
 use Rattle.clock_read.specs.devices.{usbOf, wdtOf, flashOf}
 use Rattle.clock_read.specs.lpsys.{lpsysSysOf, lpsysHclkOf}
 use Rattle.clock_read.specs.buses.{pclkOf, pclk2Of, lpsysPclk1Of, lpsysPclk2Of, lpsysPeriOf, lpsysMacOf}
+use Rattle.register.specs.Numbers.{DLL1, DLL2, FLASH}
 
 -- `read_hpsys_clocks_from_hw`: the 15 frequencies of `Clocks`, 0 for none. The peripheral clock is 48 MHz from either source, its half 24,
 -- the RTC's 100,000 Hz; the audio PLL pair is none.
@@ -21,15 +22,15 @@ clocksOf h =
     ∷ maybe (hclkOf h)
     ∷ maybe (pclkOf h)
     ∷ maybe (pclk2Of h)
-    ∷ maybe (dllReading (reg h 3))
-    ∷ maybe (dllReading (reg h 4))
+    ∷ maybe (dllReading (reg h DLL1))
+    ∷ maybe (dllReading (reg h DLL2))
     ∷ 48000000
     ∷ 24000000
     ∷ maybe (usbOf h)
     ∷ maybe (wdtOf h)
     ∷ 100000
-    ∷ maybe (flashOf (byteB (reg h 5)) h)
-    ∷ maybe (flashOf (byteC (reg h 5)) h)
+    ∷ maybe (flashOf (byteB (reg h FLASH)) h)
+    ∷ maybe (flashOf (byteC (reg h FLASH)) h)
     ∷ 0
     ∷ 0
     ∷ []
@@ -46,8 +47,8 @@ lpsysOf h =
     ∷ []
 
 -- the numbers of a `Clocks` in the order of the source
-abbrev pub listed : Clocks → List ℕ
-listed c =
+abbrev pub inOrder : Clocks → List ℕ
+inOrder c =
     c .sysclk .0
     ∷ c .hclk .0
     ∷ c .pclk .0

@@ -3,8 +3,8 @@ use Prim.Native.Nat.{ℕ}
 use mathlib.Core.Bool.{cond}
 use mathlib.Core.List.{List}
 use lib.Dec.{eqb}
-use Rattle.clock.specs.clocks.{maybe}
-use Rattle.head.specs.from_bytes.Record.{headRefusal, headOf}
+use Rattle.time.specs.MaybeHertz.{maybe}
+use Rattle.head.specs.Record.{headRefusal, headOf}
 use Rattle.clock_read.specs.lpsys.{lpsysHclkOf}
 
 -- "LPSYS HCLK in Hz", 0 where none reads or the head is refused

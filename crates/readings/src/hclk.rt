@@ -1,7 +1,7 @@
 // LPSYS HCLK read from a head's bytes.
 ghost use mathlib.Core.Path.{_≡_};
 ghost use Rattle.readings.specs.hclk.{hclkIn};
-use clock::clocks::MaybeHertz;
+use time::MaybeHertz;
 
 // LPSYS HCLK of the head in a buffer, and none where the head is refused.
 pub fn lpsys_hclk(buffer: &[u8]) -> MaybeHertz

@@ -2,16 +2,16 @@
 pub mod hclk;
 
 ghost use mathlib.Core.Path.{_≡_};
-ghost use Rattle.head.specs.from_bytes.Record.{headRefusal, headOf};
+ghost use Rattle.head.specs.Record.{headRefusal, headOf};
 ghost use Rattle.head.specs.Encodable.{Encodable};
-ghost use Rattle.readings.specs.Clocks.{clocksOf, lpsysOf, listed, unlessRefused};
-use clock::clocks::Clocks;
-use clock::clocks::MaybeHertz;
+ghost use Rattle.readings.specs.Clocks.{clocksOf, lpsysOf, inOrder, unlessRefused};
+use clock::Clocks;
 use head::Head;
+use time::MaybeHertz;
 
 pub fn read_hpsys_clocks_from_hw(h: Head) -> Clocks
     requires { ⌜ Encodable h ⌝ }
-    ensures { λ r. ⌜ listed r ≡ clocksOf h ⌝ }
+    ensures { λ r. ⌜ inOrder r ≡ clocksOf h ⌝ }
 {
     Clocks {
         sysclk: MaybeHertz::from_reading(clock_read::get_clk_sys_freq(h)),
@@ -34,7 +34,7 @@ pub fn read_hpsys_clocks_from_hw(h: Head) -> Clocks
 
 // The numbers of the 15 frequencies, in their order.
 pub fn numbers(c: Clocks) -> [u32; 15]
-    ensures { λ r. ⌜ r ≡ listed c ⌝ }
+    ensures { λ r. ⌜ r ≡ inOrder c ⌝ }
 {
     [
         c.sysclk.0,

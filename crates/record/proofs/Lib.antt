@@ -4,3 +4,4 @@ pub mod Refusals
 pub mod Items
 pub mod Laid
 pub mod Parts
+pub mod Four

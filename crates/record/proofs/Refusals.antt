@@ -1,11 +1,10 @@
 -- Laws of `firstOf`. Assumes nothing.
-use Prim.Native.Nat.{ℕ, zero, suc}
+use Prim.Native.Nat.{ℕ, suc}
 use mathlib.Core.Path.{_≡_, refl, sym, _∙_}
 use mathlib.Core.Bool.{Bool, true, false, cond, not}
 use mathlib.Core.List.{List, [], _∷_, _++_}
 use native.Mathlib.Omega.{arith}
 use lib.Dec.{eqb}
-use lib.ListN.{getD}
 use borrow.Author.Tests.{eqb-true, eqb-false, eq-eqb, ne-eqb}
 use Rattle.record.specs.Refusals.{refuse, firstOf}
 
@@ -27,12 +26,15 @@ none-rest : (n m : ℕ) (t : Bool) → eqb n 0 ≡ t → cond t m n ≡ 0 → m 
 none-rest n m true q e = e
 none-rest n m false q e = absurd (eqb-false n 0 q e)
 
--- so no test of a list found its fault
-pub none-at : (ns : List ℕ) → firstOf ns ≡ 0 → (k : ℕ) → getD ns k 0 ≡ 0
+-- so no test of a list found its fault: `search` finds the one that is asked for among them
+abbrev pub NoneRefused : List ℕ → Type 0
+NoneRefused [] = Unit {0}
+NoneRefused (n ∷ ns) = (n ≡ 0) × NoneRefused ns
+
+pub none-refused : (ns : List ℕ) → firstOf ns ≡ 0 → NoneRefused ns
 unfolding firstOf
-none-at [] e k = refl
-none-at (n ∷ ns) e zero = none-first n (firstOf ns) (eqb n 0) refl e
-none-at (n ∷ ns) e (suc k) = none-at ns (none-rest n (firstOf ns) (eqb n 0) refl e) k
+none-refused [] e = tt
+none-refused (n ∷ ns) e = (none-first n (firstOf ns) (eqb n 0) refl e, none-refused ns (none-rest n (firstOf ns) (eqb n 0) refl e))
 
 -- a refusal that is 0 stands for a test that found no fault
 pub not-refused : (n : ℕ) (b : Bool) → refuse (suc n) b ≡ 0 → b ≡ false

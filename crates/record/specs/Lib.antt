@@ -1,4 +1,4 @@
 pub mod Bytes
 pub mod Refusals
 pub mod Items
-pub mod four
+pub mod Four

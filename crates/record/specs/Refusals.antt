@@ -1,7 +1,7 @@
 -- Refusals in their order: document 01 lists tests, and the first that fails gives the number. Assumes nothing.
 use Prim.Native.Nat.{ℕ}
 use mathlib.Core.List.{List, [], _∷_}
-use mathlib.Core.Bool.{Bool, true, false, cond}
+use mathlib.Core.Bool.{Bool, cond}
 use lib.Dec.{eqb}
 
 -- the refusal `n` where the test `b` finds its fault, else 0 for none

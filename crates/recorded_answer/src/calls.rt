@@ -27,7 +27,9 @@ pub fn compare(
 ) -> Outcome
     requires { ⌜ (answer .entries ≤ length (now journal)) × (shown ≤ 15) ⌝ }
     ensures { λ r. ⌜ AnswerWithin r (length (now (text .entry))) ⌝ }
-    ensures { λ r. ⌜ (r ≡ Outcome.Same → now (line .entry) ≡ givenText (now (name .entry)) (now (argument .entry)) (now (buffer .entry)) (now (answers .entry)) (take shown former) ++ leftText answer (now (left .entry)) (now (journal .entry)) (take shown clocks)) ⌝ }
+    ensures { λ r. ⌜ (r ≡ Outcome.Same → now (line .entry) ≡
+        givenText (now (name .entry)) (now (argument .entry)) (now (buffer .entry)) (now (answers .entry)) (take shown former)
+        ++ leftText answer (now (left .entry)) (now (journal .entry)) (take shown clocks)) ⌝ }
 {
     let given = crate::given::put_given(name, argument, buffer, answers, former, shown, text);
     let end = crate::left::put_left(answer, left, journal, clocks, shown, text, given);

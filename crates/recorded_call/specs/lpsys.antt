@@ -2,7 +2,7 @@
 use Prim.Native.Nat.{ℕ}
 use mathlib.Core.List.{List}
 use lib.ListN.{getD}
-use Rattle.record.specs.four.{fourIn}
+use Rattle.record.specs.Four.{fourIn}
 use Rattle.call.specs.Call.{Result}
 use Rattle.lpsys_request.specs.frequency.{lpsysRequest, safeFrequency}
 use Rattle.clock_lpsys.specs.dividers.{setLpsysHdiv, setLpsysDiv, configMac}

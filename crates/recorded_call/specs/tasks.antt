@@ -5,7 +5,7 @@ use lib.ListN.{getD}
 use Rattle.task.specs.bytes.{taskIn}
 use Rattle.call.specs.Call.{Result}
 use Rattle.booking.specs.Booking.{book}
-use Rattle.booking.specs.release.{release}
+use Rattle.booking.specs.Release.{release}
 use Rattle.recorded_call.specs.declared.tasks.Call.{Call}
 use Rattle.recorded_call.specs.declared.tasks.Call.the-variants.{Book, Release}
 

@@ -17,6 +17,6 @@ pub fn run(call: Call, argument: &[u8], buffer: &mut [u8]) -> Answer
     let period = recorded_line::four_at(argument, 5);
     match call {
         Call::Book => booking::book(buffer, id, cycles, period),
-        Call::Release => booking::release::release(buffer, id),
+        Call::Release => booking::release(buffer, id),
     }
 }

@@ -5,7 +5,7 @@ use mathlib.Core.List.{List}
 use native.Mathlib.Nat.{add-zero}
 use lib.ListN.{length, drop, getD, List·getD-eq-default}
 use lib.Seq.{getD-drop}
-use Rattle.record.specs.four.{fourOf, fourIn}
+use Rattle.record.specs.Four.{fourOf, fourIn}
 
 pub past-end : (s : List ℕ) (at : ℕ) → length s ≤ at → 0 ≡ getD s at 0
 past-end s at h = sym (List·getD-eq-default s 0 {n = at} h)

@@ -5,7 +5,7 @@ pub mod numbers;
 ghost use Prim.Native.Nat.{_≤_};
 ghost use mathlib.Core.Path.{_≡_};
 ghost use lib.ListN.{drop, getD};
-ghost use Rattle.record.specs.four.{fourIn};
+ghost use Rattle.record.specs.Four.{fourIn};
 
 pub fn byte_at(bytes: &[u8], at: usize) -> u8
     ensures { λ r. ⌜ r ≡ getD (now (bytes .entry)) at 0 ⌝ }
@@ -25,5 +25,5 @@ pub fn four_at(bytes: &[u8], at: usize) -> u32
     let b = byte_at(bytes, at + 1);
     let c = byte_at(bytes, at + 2);
     let d = byte_at(bytes, at + 3);
-    record::four::four_bytes(a, b, c, d)
+    record::four_bytes(a, b, c, d)
 }

@@ -2,12 +2,12 @@
 ghost use Prim.Native.Nat.{_≤_, _*_};
 ghost use mathlib.Core.Path.{_≡_};
 ghost use lib.ListN.{length, take};
-ghost use Rattle.recorded_line.specs.numbers.{joined};
+ghost use Rattle.recorded_line.specs.numbers.{answersIn};
 
 // The numbers of two bytes each, at the start of `words`.
 pub fn join(bytes: &[u8], words: &mut [u16]) -> usize
     requires { ⌜ length (now bytes) ≤ 2 * length (now words) ⌝ }
-    ensures { λ r. ⌜ (r ≤ length (now (words .entry))) × (take r (now (words .exit)) ≡ joined (now (bytes .entry))) ⌝ }
+    ensures { λ r. ⌜ (r ≤ length (now (words .entry))) × (take r (now (words .exit)) ≡ answersIn (now (bytes .entry))) ⌝ }
 {
     let count = bytes.len() / 2;
     let mut i = 0;

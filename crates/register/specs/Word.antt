@@ -1,6 +1,5 @@
 -- Words of three bytes. Assumes nothing.
 use Prim.Native.Nat.{ℕ, _+_, _*_, _/_, _%_}
-use mathlib.Core.Bool.{Bool, cond}
 use mathlib.Core.List.{List, [], _∷_}
 use lib.ListN.{getD}
 
@@ -24,7 +23,3 @@ wordBytes w = byteA w ∷ byteB w ∷ byteC w ∷ []
 
 unfoldable pub wordIn : List ℕ → ℕ
 wordIn b = wordOf (getD b 0 0) (getD b 1 0) (getD b 2 0)
-
--- "Flags are 0 or 1."
-abbrev pub bit : Bool → ℕ
-bit t = cond t 1 0

@@ -7,7 +7,7 @@ use lib.ListN.{length, take, replicate}
 use Rattle.call.specs.declared.Answer.{Answer}
 use Rattle.call.specs.Call.{Result, Answers}
 use Rattle.recorded_answer.specs.Answer.{unused}
-use Rattle.recorded_line.specs.numbers.{joined}
+use Rattle.recorded_line.specs.numbers.{answersIn}
 use Rattle.recorded_answer.specs.given.{givenText}
 use Rattle.recorded_answer.specs.left.{leftText}
 use Rattle.recorded_config.proofs.kinds.Laws.{lent-most}
@@ -33,7 +33,7 @@ shown-most (Config call) = lent-most call
 shown-most (Tasks call) = omega arith
 
 -- what is put of a call on a copy of its buffer, given and left, is its line
-pub line-is : (call : Call) (name x b a former words copy b' j' clocks : List ℕ) (shown : ℕ) (r : Answer) → copy ≡ b → words ≡ joined a → shown ≡ lentClocks call →
+pub line-is : (call : Call) (name x b a former words copy b' j' clocks : List ℕ) (shown : ℕ) (r : Answer) → copy ≡ b → words ≡ answersIn a → shown ≡ lentClocks call →
     Answers (resultOf call x copy (replicate 128 unused) words) r b' j' → clocks ≡ clocksAfter call former x copy (replicate 128 unused) words →
     givenText name x b a (take shown former) ++ leftText r b' j' (take shown clocks) ≡ lineOf call name x b a former
 line-is call name x b a former words copy b' j' clocks shown r l w e h k =

@@ -5,7 +5,7 @@ use mathlib.Core.List.{List, _++_}
 use lib.ListN.{take, replicate}
 use Rattle.call.specs.Call.{Result}
 use Rattle.recorded_answer.specs.Answer.{unused}
-use Rattle.recorded_line.specs.numbers.{joined}
+use Rattle.recorded_line.specs.numbers.{answersIn}
 use Rattle.recorded_answer.specs.given.{givenText}
 use Rattle.recorded_answer.specs.left.{resultText}
 use Rattle.recorded_config.specs.kinds as clocks
@@ -41,7 +41,7 @@ clocksAfter (Tasks call) former x b j a = former
 abbrev pub lineOf : Call → List ℕ → List ℕ → List ℕ → List ℕ → List ℕ → List ℕ
 lineOf call name x b a former =
     givenText name x b a (take (lentClocks call) former) ++
-    resultText (resultOf call x b (replicate 128 unused) (joined a)) (take (lentClocks call) (clocksAfter call former x b (replicate 128 unused) (joined a)))
+    resultText (resultOf call x b (replicate 128 unused) (answersIn a)) (take (lentClocks call) (clocksAfter call former x b (replicate 128 unused) (answersIn a)))
 
 -- a line has the name, what the call is given, and what the call leaves of it by its definition
 pub record Recorded (call : Call) (name line : List ℕ) : Type 0 where

@@ -4,7 +4,7 @@ use mathlib.Core.Path.{_≡_}
 use mathlib.Core.List.{List, _++_}
 use lib.ListN.{replicate}
 use Rattle.verdict.specs.Verdict.{verdict, numberOf}
-use Rattle.head.specs.from_bytes.Record.{headRefusal, headOf}
+use Rattle.head.specs.Record.{headRefusal, headOf}
 use Rattle.readings.specs.Clocks.{clocksOf, lpsysOf, unlessRefused}
 use Rattle.text.specs.Decimal.{numberField}
 use Rattle.text.specs.Hex.{byteField, wordField}

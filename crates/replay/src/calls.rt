@@ -7,7 +7,7 @@ ghost use Prim.Native.Nat.{_≤_};
 ghost use mathlib.Core.Path.{_≡_};
 ghost use lib.ListN.{length};
 ghost use Rattle.call.specs.Call.{Answers};
-ghost use Rattle.recorded_line.specs.numbers.{joined};
+ghost use Rattle.recorded_line.specs.numbers.{answersIn};
 ghost use Rattle.recorded_answer.specs.Answer.{AnswerWithin};
 ghost use Rattle.replay.specs.Line.{lentClocks, resultOf, clocksAfter, lineOf, Recorded};
 use call::Answer;
@@ -69,7 +69,7 @@ fn run_line(
     line: &[u8],
     text: &mut [u8],
 ) -> Outcome
-    requires { ⌜ (now left ≡ now buffer) × (now words ≡ joined (now answers)) ⌝ }
+    requires { ⌜ (now left ≡ now buffer) × (now words ≡ answersIn (now answers)) ⌝ }
     ensures { λ r. ⌜ AnswerWithin r (length (now (text .entry))) ⌝ }
     ensures { λ r. ⌜ (r ≡ Outcome.Same → now (line .entry) ≡ lineOf call (now (name .entry)) (now (argument .entry)) (now (buffer .entry)) (now (answers .entry)) former) ⌝ }
 {

@@ -5,7 +5,7 @@ mod lpsys;
 mod tasks;
 
 ghost use mathlib.Core.Path.{_≡_};
-ghost use Rattle.head.specs.from_bytes.Record.{headRefusal, headOf};
+ghost use Rattle.head.specs.Record.{headRefusal, headOf};
 ghost use Rattle.readings.specs.Clocks.{clocksOf, lpsysOf, unlessRefused};
 ghost use Rattle.verdict.specs.Verdict.{verdict, numberOf};
 ghost use Rattle.call.specs.word.{packed};

@@ -7,7 +7,7 @@ use Rattle.record.specs.Items.{items}
 use Rattle.layout.specs.Layout.{taskCountAt, mostTasks, firstTask, cyclesAt, periodAt, taskSize}
 use Rattle.task.specs.declared.Task.{Task}
 use Rattle.task.specs.Task.{noTask, allOk, distinct}
-use Rattle.record.specs.four.{fourIn, fourBytes}
+use Rattle.record.specs.Four.{fourIn, fourBytes}
 
 -- "per task id .., cycles and period in microseconds, four big-endian bytes each": the task at the front of bytes, and a task's bytes
 unfoldable pub taskIn : List ℕ → Task

@@ -12,8 +12,8 @@ pub fn task_at(buffer: &[u8], at: usize) -> Task
     requires { ⌜ at + periodEnd ≤ length (now buffer) ⌝ }
     ensures { λ r. ⌜ r ≡ taskIn (drop at (now (buffer .entry))) ⌝ }
 {
-    let cycles = record::four::four_at(buffer, at + layout::CYCLES_AT);
-    let period = record::four::four_at(buffer, at + layout::PERIOD_AT);
+    let cycles = record::four_at(buffer, at + layout::CYCLES_AT);
+    let period = record::four_at(buffer, at + layout::PERIOD_AT);
     Task {
         id: buffer[at],
         cycles,
@@ -54,8 +54,8 @@ fn put_task(buffer: &mut [u8], at: usize, task: Task)
     ensures { λ _. ⌜ now (buffer .exit) ≡ laid at (taskBytes task) (now (buffer .entry)) ⌝ }
 {
     buffer[at] = task.id;
-    record::four::put_four(buffer, at + layout::CYCLES_AT, task.cycles);
-    record::four::put_four(buffer, at + layout::PERIOD_AT, task.period);
+    record::put_four(buffer, at + layout::CYCLES_AT, task.cycles);
+    record::put_four(buffer, at + layout::PERIOD_AT, task.period);
 }
 
 // Writes the booked tasks at their places.

@@ -1,6 +1,5 @@
 -- Frequencies as time.rs has them, at every operand. Assumes nothing.
 use Prim.Native.Nat.{ℕ, _/_}
-use Rattle.time.specs.declared.Hertz.{Hertz}
 use Rattle.time.specs.declared.Reading.{Reading}
 use Rattle.time.specs.declared.Reading.the-variants.{At, Unreadable}
 

@@ -1,2 +1,3 @@
 pub mod Frequency
 pub mod arithmetic
+pub mod MaybeHertz

@@ -2,7 +2,6 @@
 use Prim.Native.Nat.{ℕ, _/_}
 use mathlib.Core.Bool.{cond}
 use lib.Dec.{eqb, ltb}
-use Rattle.time.specs.declared.Hertz.{Hertz}
 use Rattle.time.specs.declared.arithmetic.Computed.{Computed}
 use Rattle.time.specs.declared.arithmetic.Computed.the-variants.{Exact, Overflow, ByZero}
 

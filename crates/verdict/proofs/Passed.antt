@@ -1,13 +1,13 @@
 -- What an accepted plan has. Assumes nothing.
 use mathlib.Core.Path.{_≡_, refl, sym}
 use mathlib.Core.Bool.{Bool, true, false, cond}
-use borrow.Author.Tests.{not-false, eqb-true}
+use borrow.Author.Tests.{eqb-true}
 use lib.Dec.{eqb}
-use Rattle.record.proofs.Refusals.{none-at, not-refused}
+use Rattle.record.proofs.Refusals.{none-refused, not-refused, not-refused-unless}
 use Rattle.plan.specs.declared.Plan.{Plan}
 use Rattle.plan.specs.Plan.{legal}
 use Rattle.plan_clocks.specs.Clocks.{maybeWholeHz, sysHz, hclkHz, pclk1Hz, pclk2Hz, usbHz, targetOf}
-use Rattle.limits.specs.sources.{coreOnAbsentDll1, coreOnDbl96, flashOnAbsentDll, usbOnAbsentDll2}
+use Rattle.limits.specs.Limits.{coreOnAbsentDll1, coreOnDbl96, flashOnAbsentDll, usbOnAbsentDll2}
 use Rattle.limits.specs.Limits.{usbNot60, dll1CoreTooSlow, hclkTooFast, pclk1TooFast, pclk2TooFast, dll2TooFast}
 use Rattle.verdict.specs.tests.{planTests, planRefusal}
 use Rattle.verdict.specs.declared.Verdict.the-variants.{Accepted, Refused}
@@ -31,20 +31,20 @@ pub record Passed (p : Plan) : Type 0 where
 pub passed : (p : Plan) → planRefusal p ≡ 0 → Passed p
 unfolding planRefusal
 passed p e =
-    let at = none-at (planTests p) e in
+    let none = none-refused (planTests p) e in
     record {
-      test-3 = not-false (legal p) (not-refused 2 _ (at 0));
-      test-4 = not-refused 3 _ (at 1);
-      test-5 = not-refused 4 _ (at 2);
-      test-6 = not-refused 5 _ (at 3);
-      test-7 = not-refused 6 _ (at 4);
-      test-8 = not-refused 7 _ (at 5);
-      test-9 = not-refused 8 _ (at 6);
-      test-10 = not-refused 9 _ (at 7);
-      test-11 = not-refused 10 _ (at 8);
-      test-12 = not-refused 11 _ (at 9);
-      test-13 = not-refused 12 _ (at 10);
-      test-14 = not-refused 13 _ (at 11);
+      test-3 = not-refused-unless 2 (legal p) search;
+      test-4 = not-refused 3 (coreOnAbsentDll1 p) search;
+      test-5 = not-refused 4 (coreOnDbl96 p) search;
+      test-6 = not-refused 5 (flashOnAbsentDll (p .mpi1sel) p) search;
+      test-7 = not-refused 6 (flashOnAbsentDll (p .mpi2sel) p) search;
+      test-8 = not-refused 7 (usbOnAbsentDll2 p) search;
+      test-9 = not-refused 8 (usbNot60 (p .usb) (usbHz p)) search;
+      test-10 = not-refused 9 (dll1CoreTooSlow (p .sys) (sysHz p)) search;
+      test-11 = not-refused 10 (hclkTooFast (hclkHz p)) search;
+      test-12 = not-refused 11 (pclk1TooFast (hclkHz p) (pclk1Hz p)) search;
+      test-13 = not-refused 12 (pclk2TooFast (hclkHz p) (pclk2Hz p)) search;
+      test-14 = not-refused 13 (dll2TooFast (hclkHz p) (maybeWholeHz (p .dll2))) search;
     }
 
 -- the number of a verdict is the plan's refusal, 0 for none

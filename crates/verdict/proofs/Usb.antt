@@ -13,7 +13,7 @@ use Rattle.clock.proofs.Laws.{dll-least, dll-most}
 use Rattle.plan.specs.declared.Plan.{Plan}
 use Rattle.plan.specs.Code.{stageOf}
 use Rattle.plan_clocks.specs.Clocks.{maybeHz, sysHz, usbHz, usbDivider}
-use Rattle.limits.specs.sources.{isAbsent, coreOnAbsentDll1, usbOnAbsentDll2}
+use Rattle.limits.specs.Limits.{isAbsent, coreOnAbsentDll1, usbOnAbsentDll2}
 use Rattle.limits.specs.Limits.{usbNot60}
 use Rattle.verdict.specs.tests.{planRefusal}
 use Rattle.plan.proofs.Legal.{legal-stages}

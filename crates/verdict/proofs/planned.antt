@@ -1,1 +1,1 @@
-mod Plans
+pub mod Plans

@@ -1,17 +1,31 @@
 // The bytes of a plan that a call is lent: decoded and judged.
 ghost use mathlib.Core.Path.{_≡_};
-ghost use Rattle.verdict.specs.Verdict.{verdict, numberOf};
-ghost use Rattle.verdict.specs.planned.{Plans};
+ghost use mathlib.Core.Bool.{true};
+ghost use Rattle.plan.specs.Plan.{legal};
+ghost use Rattle.verdict.specs.Verdict.{verdictOf, verdict, numberOf};
+ghost use Rattle.verdict.specs.planned.{unplanned, plannedBy, planned};
+use crate::Verdict;
 use plan::Plan;
 use plan::bytes::Decoded;
 use plan_clocks::Target;
 use time::Hertz;
 
-// The refusal 1 to 14, or 0; and where it is 0, the plan and what it gives.
+// The plan and what it gives, and 0; or a refusal 1 to 14 beside a plan and a target that are no one's.
 pub struct Planned {
     pub refusal: u8,
     pub plan: Plan,
     pub target: Target,
+}
+
+// The number of a verdict: 0 for an accepted plan.
+fn number(plan: Plan) -> u8
+    requires { ⌜ legal plan ≡ true ⌝ }
+    ensures { λ r. ⌜ r ≡ numberOf (verdictOf plan) ⌝ }
+{
+    match crate::check_plan(plan) {
+        Verdict::Accepted(_) => 0,
+        Verdict::Refused(refusal) => refusal,
+    }
 }
 
 // The number of the verdict on the bytes of a record: its refusal 1 to 14, 0 for an accepted plan.
@@ -20,12 +34,12 @@ pub fn check(bytes: &[u8]) -> u8
 {
     match plan::bytes::decode(bytes) {
         Decoded::Unread(refusal) => refusal,
-        Decoded::Read(plan) => crate::refusal(plan),
+        Decoded::Read(plan) => number(plan),
     }
 }
 
-fn none(refusal: u8) -> Planned
-    ensures { λ r. ⌜ r .refusal ≡ refusal ⌝ }
+fn refused(refusal: u8) -> Planned
+    ensures { λ r. ⌜ r ≡ unplanned refusal ⌝ }
 {
     let target = Target {
         hclk: Hertz(0),
@@ -40,17 +54,26 @@ fn none(refusal: u8) -> Planned
     }
 }
 
-pub fn admit(bytes: &[u8]) -> Planned
-    ensures { λ r. ⌜ Plans (now (bytes .entry)) r ⌝ }
+fn judge(plan: Plan) -> Planned
+    requires { ⌜ legal plan ≡ true ⌝ }
+    ensures { λ r. ⌜ r ≡ plannedBy plan (verdictOf plan) ⌝ }
 {
-    let refusal = check(bytes);
-    if refusal != 0 {
-        return none(refusal);
+    match crate::check_plan(plan) {
+        Verdict::Accepted(target) => Planned {
+            refusal: 0,
+            plan,
+            target,
+        },
+        Verdict::Refused(refusal) => refused(refusal),
     }
-    let plan = plan::bytes::fields(bytes);
-    Planned {
-        refusal,
-        plan,
-        target: plan_clocks::target_of(plan),
+}
+
+// What a call that is lent the bytes of a plan goes on with.
+pub fn admit(bytes: &[u8]) -> Planned
+    ensures { λ r. ⌜ r ≡ planned (now (bytes .entry)) ⌝ }
+{
+    match plan::bytes::decode(bytes) {
+        Decoded::Unread(refusal) => refused(refusal),
+        Decoded::Read(plan) => judge(plan),
     }
 }

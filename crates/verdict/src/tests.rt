@@ -1,11 +1,10 @@
 // rcc/clock_config.rs, `ConfigBuilder::check`: the tests of a plan in their order.
 ghost use mathlib.Core.Path.{_≡_};
 ghost use mathlib.Core.Bool.{true};
-ghost use lib.ListN.{drop};
 ghost use Rattle.record.specs.Refusals.{firstOf};
 ghost use Rattle.plan.specs.Plan.{legal};
 ghost use Rattle.plan_clocks.specs.Clocks.{sourcesOf, targetOf};
-ghost use Rattle.verdict.specs.tests.{planTests, planRefusal};
+ghost use Rattle.verdict.specs.tests.{frequencyTests, planRefusal};
 use plan::Plan;
 use plan_clocks::Sources;
 use plan_clocks::Target;
@@ -36,7 +35,7 @@ pub fn refusal(p: Plan, sources: Sources, target: Target) -> u8
 // Tests 9 to 14.
 fn frequency_refusal(p: Plan, sources: Sources, target: Target) -> u8
     requires { ⌜ (legal p ≡ true) × ((sources ≡ sourcesOf p) × (target ≡ targetOf p)) ⌝ }
-    ensures { λ r. ⌜ r ≡ firstOf (drop 6 (planTests p)) ⌝ }
+    ensures { λ r. ⌜ r ≡ firstOf (frequencyTests p) ⌝ }
 {
     let core = sources.core;
     let usb = sources.usb;

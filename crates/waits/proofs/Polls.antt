@@ -10,15 +10,15 @@ use lib.ListN.{length, getD, drop, set, length-append}
 use lib.Seq.{drop-cons, drop-length}
 use borrow.Author.Tests.{ne-eqb, le-leb, lt-leb}
 use Rattle.journal.specs.declared.Machine.{Machine}
-use Rattle.journal.specs.Run.{Run, Effect, Poll, hit, dry, more, poll, entry, ended, waited, wait, measured, measure}
+use Rattle.journal.specs.Run.{Run, Effect, Poll, readyAfter, neverReady, more, poll, entry, ended, waited, wait, measured, measure}
 use Rattle.journal.specs.Machine.{machineOf, Ran}
 use Rattle.waits.specs.Found.{Found}
 use Rattle.journal.proofs.Reached.{ran-entry, ran-quiet}
 
 -- polling, one answer on
 found-more : (a : List ℕ) (i r : ℕ) (q : Poll) → Found a (i + 1) r q → Found a i r (more q)
-found-more a i r (hit n) h = (h .0, omega (arith, h .1))
-found-more a i r dry h = h
+found-more a i r (readyAfter n) h = (h .0, omega (arith, h .1))
+found-more a i r neverReady h = h
 
 pub found-step : (a : List ℕ) (i r : ℕ) → i < length a → getD a i 0 ≡ 0 → Found a (i + 1) r (poll (drop (i + 1) a)) → Found a i r (poll (drop i a))
 unfolding poll
@@ -33,20 +33,20 @@ unfolding poll
 found-end a i e = rw (e, drop-length a) refl
 
 -- what the place says of the polls
-pub found-hit : (a : List ℕ) (from r : ℕ) (q : Poll) → Found a from r q → r < length a → (from ≤ r + 1) × (q ≡ hit (r + 1 - from))
-found-hit a from r (hit n) f l = let e : n ≡ r + 1 - from = omega (arith, f .1) in (omega (arith, f .1), ap hit e)
-found-hit a from r dry f l = absurd (omega arith)
+pub found-hit : (a : List ℕ) (from r : ℕ) (q : Poll) → Found a from r q → r < length a → (from ≤ r + 1) × (q ≡ readyAfter (r + 1 - from))
+found-hit a from r (readyAfter n) f l = let e : n ≡ r + 1 - from = omega (arith, f .1) in (omega (arith, f .1), ap readyAfter e)
+found-hit a from r neverReady f l = absurd (omega arith)
 
-pub found-dry : (a : List ℕ) (from r : ℕ) (q : Poll) → Found a from r q → length a ≤ r → (r ≡ length a) × (q ≡ dry)
-found-dry a from r (hit n) f l = absurd (omega (arith, f .0))
-found-dry a from r dry f l = (f, refl)
+pub found-dry : (a : List ℕ) (from r : ℕ) (q : Poll) → Found a from r q → length a ≤ r → (r ≡ length a) × (q ≡ neverReady)
+found-dry a from r (readyAfter n) f l = absurd (omega (arith, f .0))
+found-dry a from r neverReady f l = (f, refl)
 
 -- the polls of a run are those of its machine
 polls : (a : List ℕ) (m : Machine) (r : Run) (q : Poll) → m ≡ machineOf r → poll (drop (m .taken) a) ≡ q → poll (drop (r .taken) a) ≡ q
 polls a m r q e f = ap (λ (w : Machine). poll (drop (w .taken) a)) (sym e) ∙ f
 
 -- a wait that ends, by how many answers it takes
-pub ran-hit : (m : Machine) (j a : List ℕ) (kind n : ℕ) → m .stop ≡ 0 → m .at < length j → poll (drop (m .taken) a) ≡ hit n →
+pub ran-hit : (m : Machine) (j a : List ℕ) (kind n : ℕ) → m .stop ≡ 0 → m .at < length j → poll (drop (m .taken) a) ≡ readyAfter n →
     Ran (wait kind a) m (record { head = m .head; at = m .at + 1; taken = m .taken + n; stop = m .stop }) j (set j (m .at) (entry 49 (kind * 65536 + n)))
 unfolding wait
 ran-hit m j a kind n z h f = ran-entry (λ (r : Run). waited kind a (poll (drop (r .taken) a)) r) m _ j (entry 49 (kind * 65536 + n)) z h does
@@ -54,10 +54,10 @@ ran-hit m j a kind n z h f = ran-entry (λ (r : Run). waited kind a (poll (drop 
     does : (r : Run) → m ≡ machineOf r →
         (_≡_ {A = Machine} (record { head = m .head; at = m .at + 1; taken = m .taken + n; stop = m .stop }) (machineOf (waited kind a (poll (drop (r .taken) a)) r))) ×
         (waited kind a (poll (drop (r .taken) a)) r .entries ≡ r .entries ++ (entry 49 (kind * 65536 + n) ∷ []))
-    does r q = (rw (polls a m r (hit n) q f, q) (simp length-append), rw (polls a m r (hit n) q f))
+    does r q = (rw (polls a m r (readyAfter n) q f, q) (simp length-append), rw (polls a m r (readyAfter n) q f))
 
 -- a wait that 36 cuts short
-pub ran-dry : (m : Machine) (j a : List ℕ) (kind : ℕ) → m .stop ≡ 0 → poll (drop (m .taken) a) ≡ dry →
+pub ran-dry : (m : Machine) (j a : List ℕ) (kind : ℕ) → m .stop ≡ 0 → poll (drop (m .taken) a) ≡ neverReady →
     Ran (wait kind a) m (record { head = m .head; at = m .at; taken = length a; stop = 36 }) j j
 unfolding wait
 ran-dry m j a kind z f = ran-quiet (λ (r : Run). waited kind a (poll (drop (r .taken) a)) r) m _ j z does
@@ -65,15 +65,15 @@ ran-dry m j a kind z f = ran-quiet (λ (r : Run). waited kind a (poll (drop (r .
     does : (r : Run) → m ≡ machineOf r →
         (_≡_ {A = Machine} (record { head = m .head; at = m .at; taken = length a; stop = 36 }) (machineOf (waited kind a (poll (drop (r .taken) a)) r))) ×
         (waited kind a (poll (drop (r .taken) a)) r .entries ≡ r .entries)
-    does r q = (rw (polls a m r dry q f, q), rw (polls a m r dry q f))
+    does r q = (rw (polls a m r neverReady q f, q), rw (polls a m r neverReady q f))
 
 -- a place is at most past the last answer
 pub found-most : (a : List ℕ) (from r : ℕ) (q : Poll) → Found a from r q → r ≤ length a
-found-most a from r (hit n) f = omega (arith, f .0)
-found-most a from r dry f = omega (arith, f)
+found-most a from r (readyAfter n) f = omega (arith, f .0)
+found-most a from r neverReady f = omega (arith, f)
 
 -- a measurement that ends
-pub ran-measured : (m : Machine) (j a : List ℕ) (n : ℕ) → m .stop ≡ 0 → m .at < length j → poll (drop (m .taken) a) ≡ hit n → m .taken + n + 2 ≤ length a →
+pub ran-measured : (m : Machine) (j a : List ℕ) (n : ℕ) → m .stop ≡ 0 → m .at < length j → poll (drop (m .taken) a) ≡ readyAfter n → m .taken + n + 2 ≤ length a →
     Ran (measure a) m (record { head = m .head; at = m .at + 1; taken = m .taken + (n + 2); stop = m .stop }) j (set j (m .at) (entry 49 (5 * 65536 + (n + 2))))
 unfolding measure
 ran-measured m j a n z h f l = ran-entry (λ (r : Run). measured a (poll (drop (r .taken) a)) r) m _ j (entry 49 (5 * 65536 + (n + 2))) z h does
@@ -84,12 +84,12 @@ ran-measured m j a n z h f l = ran-entry (λ (r : Run). measured a (poll (drop (
     does : (r : Run) → m ≡ machineOf r →
         (_≡_ {A = Machine} (record { head = m .head; at = m .at + 1; taken = m .taken + (n + 2); stop = m .stop }) (machineOf (measured a (poll (drop (r .taken) a)) r))) ×
         (measured a (poll (drop (r .taken) a)) r .entries ≡ r .entries ++ (entry 49 (5 * 65536 + (n + 2)) ∷ []))
-    does r q = (rw (polls a m r (hit n) q f, enough r q, q) (simp length-append), rw (polls a m r (hit n) q f, enough r q))
+    does r q = (rw (polls a m r (readyAfter n) q f, enough r q, q) (simp length-append), rw (polls a m r (readyAfter n) q f, enough r q))
 
 -- one that 36 cuts short
 too-few : (a : List ℕ) (r : Run) (i : ℕ) (q : Poll) → Found a (r .taken) i q → length a ≤ i + 2 → measured a q r ≡ ended 36 (length a) r
-too-few a r i (hit n) f l = rw (lt-leb (r .taken + n + 2) (length a) (omega (arith, f .1)))
-too-few a r i dry f l = refl
+too-few a r i (readyAfter n) f l = rw (lt-leb (r .taken + n + 2) (length a) (omega (arith, f .1)))
+too-few a r i neverReady f l = refl
 
 pub ran-unmeasured : (m : Machine) (j a : List ℕ) (i : ℕ) → m .stop ≡ 0 → Found a (m .taken) i (poll (drop (m .taken) a)) → length a ≤ i + 2 →
     Ran (measure a) m (record { head = m .head; at = m .at; taken = length a; stop = 36 }) j j

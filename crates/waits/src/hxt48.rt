@@ -1,7 +1,7 @@
 // Waits for a crystal that has a ready flag: HXT48, and that of LPSYS.
 ghost use Prim.Native.Nat.{_*_, _<_};
 ghost use Rattle.head.specs.Encodable.{Encodable};
-ghost use Rattle.journal.specs.Run.{entry, going, wrote, hxt48On, waitHxt48, lpsysHxt48On, waitLpsysHxt48};
+ghost use Rattle.journal.specs.Run.{entry, unlessEnded, withEntry, hxt48On, waitHxt48, lpsysHxt48On, waitLpsysHxt48};
 ghost use Rattle.journal.specs.Machine.{Lent, Does, DoesWithoutJournal, none, taking};
 use journal::Machine;
 
@@ -9,14 +9,14 @@ use journal::Machine;
 fn wait_none(m: Machine, journal: &mut [u32], kind: u32) -> Machine
     requires { ⌜ Lent 1 m (now journal) none ⌝ }
     requires { ⌜ kind < 7 ⌝ }
-    ensures { λ r. ⌜ Does 1 (going (wrote (entry 49 (kind * 65536)))) m r (now (journal .entry)) (now (journal .exit)) none ⌝ }
+    ensures { λ r. ⌜ Does 1 (unlessEnded (withEntry (entry 49 (kind * 65536)))) m r (now (journal .entry)) (now (journal .exit)) none ⌝ }
 {
     m.write(journal, 49 * 16777216 + kind * 65536)
 }
 
 fn set_hxt48(m: Machine) -> Machine
     requires { ⌜ Encodable (m .head) ⌝ }
-    ensures { λ r. ⌜ DoesWithoutJournal (going hxt48On) m r ⌝ }
+    ensures { λ r. ⌜ DoesWithoutJournal (unlessEnded hxt48On) m r ⌝ }
 {
     let stop = m.stop;
     if stop != 0 {
@@ -34,7 +34,7 @@ fn set_hxt48(m: Machine) -> Machine
 
 fn set_lpsys_hxt48(m: Machine) -> Machine
     requires { ⌜ Encodable (m .head) ⌝ }
-    ensures { λ r. ⌜ DoesWithoutJournal (going lpsysHxt48On) m r ⌝ }
+    ensures { λ r. ⌜ DoesWithoutJournal (unlessEnded lpsysHxt48On) m r ⌝ }
 {
     let stop = m.stop;
     if stop != 0 {

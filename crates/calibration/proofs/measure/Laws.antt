@@ -10,9 +10,9 @@ use Rattle.record.specs.Bytes.{isWithin}
 use Rattle.register.specs.Word.{wordBytes}
 use Rattle.register.specs.Codes.{largest, fitsRegister}
 use Rattle.journal.specs.Run.{Effect, halted}
-use Rattle.journal.proofs.Ended.{Still, still-going, still-then, still-store, still-delay, still-measure}
-use Rattle.journal.proofs.Framed.{Framed, framed-idle, framed-then, framed-going, framed-ended, framed-store, framed-delay, framed-measure}
-use Rattle.calibration.specs.measure.{measurement, judged}
+use Rattle.journal.proofs.Ended.{Still, still-unless-ended, still-then, still-store, still-delay, still-measure}
+use Rattle.journal.proofs.Framed.{Framed, framed-idle, framed-then, framed-unless-ended, framed-ended, framed-store, framed-delay, framed-measure}
+use Rattle.calibration.specs.measure.{measurement, judgedDifference}
 
 -- register 19 may hold every trim
 pub trim-fits : (v : ℕ) → v ≤ 1023 → fitsRegister 19 v ≡ true
@@ -26,10 +26,10 @@ still-either false x y = y
 
 pub still-halted : (n : ℕ) → Still (halted n)
 unfolding halted
-still-halted n = still-going _
+still-halted n = still-unless-ended _
 
-pub still-judged : (d : ℕ) → Still (judged d)
-unfolding judged
+pub still-judged : (d : ℕ) → Still (judgedDifference d)
+unfolding judgedDifference
 still-judged d = still-either (ltb 160 d) (still-halted 33) (record { stays = λ r e. refl })
 
 pub still-measurement : (trim : ℕ) (a : List ℕ) → Still (measurement trim a)
@@ -44,10 +44,10 @@ framed-either false x y = y
 
 pub framed-halted : (n : ℕ) → Framed (halted n)
 unfolding halted
-framed-halted n = framed-going (record { appends = λ es r. framed-ended n (r .taken) .appends es r })
+framed-halted n = framed-unless-ended (record { appends = λ es r. framed-ended n (r .taken) .appends es r })
 
-pub framed-judged : (d : ℕ) → Framed (judged d)
-unfolding judged
+pub framed-judged : (d : ℕ) → Framed (judgedDifference d)
+unfolding judgedDifference
 framed-judged d = framed-either (ltb 160 d) (framed-halted 33) framed-idle
 
 pub framed-measurement : (trim : ℕ) (a : List ℕ) → Framed (measurement trim a)

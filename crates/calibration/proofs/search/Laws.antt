@@ -7,7 +7,7 @@ use native.Mathlib.Omega.{arith}
 use lib.Dec.{ltb}
 use Rattle.journal.specs.Run.{Run, Effect}
 use Rattle.journal.proofs.Ended.{Still, still-then}
-use Rattle.calibration.specs.measure.{hxtCnt, hrcCnt, difference, judged}
+use Rattle.calibration.specs.measure.{hxtCnt, hrcCnt, difference, judgedDifference}
 use Rattle.calibration.proofs.measure.Laws.{still-judged, still-measurement}
 use Rattle.calibration.specs.search.{nextTrim, adjusted, search}
 
@@ -36,7 +36,7 @@ still-adjusted trim step a more x = record {
   stays = λ r e. by (ltb (difference (hxtCnt a r) (hrcCnt a r)) 64) r e (difference (hxtCnt a r) (hrcCnt a r)) (nextTrim trim step (hxtCnt a r) (hrcCnt a r));
 }
   where
-    by : (t : Bool) (r : Run) → (r .stop ≡ 0 → ⊥) → (d trim' : ℕ) → cond t (judged d r) (more trim' d r) ≡ r
+    by : (t : Bool) (r : Run) → (r .stop ≡ 0 → ⊥) → (d trim' : ℕ) → cond t (judgedDifference d r) (more trim' d r) ≡ r
     by true r e d trim' = still-judged d .stays r e
     by false r e d trim' = x trim' d .stays r e
 

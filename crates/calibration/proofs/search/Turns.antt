@@ -12,7 +12,7 @@ use Rattle.journal.specs.Run.{Run, Effect}
 use Rattle.journal.specs.Machine.{machineOf, Answers, taking, Lent, Does, DoesWithoutJournal}
 use Rattle.journal.proofs.Does.{_then_, same-long, lent-after, does-as, does-within, takes-none, beside}
 use Rattle.journal.proofs.Ended.{ran-still}
-use Rattle.calibration.specs.measure.{measurement, difference, judged}
+use Rattle.calibration.specs.measure.{measurement, difference, judgedDifference}
 use Rattle.calibration.specs.search.{nextTrim, adjusted, search}
 use Rattle.calibration.proofs.search.Laws.{Ranged, ranged-next, still-adjusted, still-search}
 
@@ -38,12 +38,12 @@ module _ (trim step : ℕ) (a : List ℕ) (more : ℕ → ℕ → Effect) (m : M
   abbrev next : ℕ
   next = nextAt trim step a m
 
-  adjusted-at : (r : Run) → m ≡ machineOf r → cond (ltb apart 64) (judged apart r) (more next apart r) ≡ adjusted trim step a more r
+  adjusted-at : (r : Run) → m ≡ machineOf r → cond (ltb apart 64) (judgedDifference apart r) (more next apart r) ≡ adjusted trim step a more r
   unfolding adjusted
   adjusted-at r q = rw q
 
   pub does-good : {k : ℕ} {m' : Machine} {j j' : List ℕ} {x : Answers} → apart < 64 →
-      Does k (judged apart) m m' j j' x → Does k (adjusted trim step a more) m m' j j' x
+      Does k (judgedDifference apart) m m' j j' x → Does k (adjusted trim step a more) m m' j j' x
   does-good h d = does-as (λ r q. rw (lt-ltb apart 64 h) at (adjusted-at r q)) (omega arith) d
 
   pub does-again : {k : ℕ} {m' : Machine} {j j' : List ℕ} {x : Answers} → 64 ≤ apart →
@@ -64,7 +64,7 @@ pub record Searching (a : List ℕ) (m₀ : Machine) (j₀ : List ℕ) (m : Mach
 
 module _ {a : List ℕ} {m₀ : Machine} {j₀ : List ℕ} {m : Machine} {j : List ℕ} {trim step d n : ℕ} (s : Searching a m₀ j₀ m j trim step d n) where
   -- the turns are over
-  pub last-turn : {m' : Machine} → 11 ≤ n → DoesWithoutJournal (judged d) m m' → Searched a m₀ m' j₀ j
+  pub last-turn : {m' : Machine} → 11 ≤ n → DoesWithoutJournal (judgedDifference d) m m' → Searched a m₀ m' j₀ j
   unfolding search
   last-turn h judge =
       let over : 11 - n ≡ 0 = omega arith in
@@ -92,7 +92,7 @@ module _ {a : List ℕ} {m₀ : Machine} {j₀ : List ℕ} {m : Machine} {j : Li
         turn (record { ran = ran-still still m₁ j₁ e; room = omega arith; encodable = after .encodable; answers = after .answers })
 
     -- one that ends the search
-    pub good-turn : {e : ℕ} {m' : Machine} → e ≡ apartAt a m₁ → e < 64 → DoesWithoutJournal (judged e) m₁ m' → Searched a m₀ m' j₀ j₁
+    pub good-turn : {e : ℕ} {m' : Machine} → e ≡ apartAt a m₁ → e < 64 → DoesWithoutJournal (judgedDifference e) m₁ m' → Searched a m₀ m' j₀ j₁
     good-turn q h judge = turn (does-good trim step a left m₁ (rw q at h) (does-within (omega arith) (takes-none after (beside (rw q at judge)))))
 
     -- one after which it goes on

@@ -12,13 +12,17 @@ same-length : tie.Need-same-length
 same-length c = search needs
 
 returns : tie.Need-returns
-returns c = record { refusal = refl; value-is = simp (ne-eqb _ _ (c .if1 .taken)); entries = refl; taken = refl; buffer = c .before .before .before .encode .ensures }
+returns c =
+    let after-encode : tie.After-encode = search in
+    record { refusal = refl; value-is = simp (ne-eqb _ _ (c .if1 .taken)); entries = refl; taken = refl; buffer = after-encode .encode .ensures }
 
 same-length-2 : tie.Need-same-length-2
 same-length-2 c = search needs
 
 returns-2 : tie.Need-returns-2
-returns-2 c = record { refusal = sym (c .if1 .left); value-is = simp (eq-eqb _ _ (c .if1 .left)); entries = refl; taken = refl; buffer = c .before .before .before .encode .ensures }
+returns-2 c =
+    let after-encode : tie.After-encode = search in
+    record { refusal = sym (c .if1 .left); value-is = simp (eq-eqb _ _ (c .if1 .left)); entries = refl; taken = refl; buffer = after-encode .encode .ensures }
 
 pub finish-spec : {M : Type 1} → statement M
 finish-spec = tie.close (tie.spec encode-requires same-length returns same-length-2 returns-2)

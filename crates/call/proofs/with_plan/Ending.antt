@@ -9,9 +9,9 @@ use Rattle.record.proofs.Refusals.{only-test, first-passes}
 use Rattle.plan.specs.declared.Plan.{Plan}
 use Rattle.plan.specs.bytes.{planOf}
 use Rattle.verdict.specs.declared.planned.Planned.{Planned}
-use Rattle.verdict.specs.planned.{Plans}
+use Rattle.verdict.proofs.planned.Plans.{Plans}
 use Rattle.head.specs.declared.Head.{Head}
-use Rattle.head.specs.from_bytes.Record.{headOf}
+use Rattle.head.specs.Record.{headOf}
 use Rattle.journal.specs.declared.Machine.{Machine}
 use Rattle.journal.specs.Run.{Effect, begin}
 use Rattle.journal.specs.Machine.{machineOf, Ran}
@@ -19,7 +19,7 @@ use Rattle.call.specs.declared.Answer.{Answer}
 use Rattle.call.specs.declared.Admitted.{Admitted}
 use Rattle.call.specs.Call.{Result, answersTests, Answers, Admits, Finishes}
 use Rattle.call.proofs.Ending.{answers-refused, call-unadmitted, call-ran, call-head}
-use Rattle.call.specs.with_plan.{planTests, planCall, headAfter}
+use Rattle.call.specs.with_plan.{lentPlanTests, planCall, headAfter}
 
 -- what a call leaves, with the clocks `cs`: `xs` where it is done, else `ys`
 abbrev pub Leaves : Result → Answer → List ℕ → List ℕ → List ℕ → List ℕ → List ℕ → Type 0
@@ -33,14 +33,14 @@ module _ (pb b j a : List ℕ) {o : Admitted} (x : Admits (answersTests b j a) b
   pub plan-unadmitted : (f : Effect) (v : ℕ) (r : Answer) (xs ys : List ℕ) → (o .refusal ≡ 0 → ⊥) →
       r ≡ record { refusal = o .refusal; value = 0; entries = 0; taken = 0 } → Leaves (planCall f v pb b j a) r b j ys xs ys
   plan-unadmitted f v r xs ys n e =
-      leaves-refused (planCall f v pb b j a) r b j xs ys (call-unadmitted x (planTests pb) f v j r n e) (λ z. n (sym (ap (λ (w : Answer). w .refusal) e) ∙ z))
+      leaves-refused (planCall f v pb b j a) r b j xs ys (call-unadmitted x (lentPlanTests pb) f v j r n e) (λ z. n (sym (ap (λ (w : Answer). w .refusal) e) ∙ z))
 
   module _ {q : Planned} (y : Plans pb q) where
     -- the plan is refused
     pub plan-refused : (f : Effect) (v : ℕ) (r : Answer) (xs ys : List ℕ) → o .refusal ≡ 0 → (q .refusal ≡ 0 → ⊥) →
         r ≡ record { refusal = q .refusal; value = 0; entries = 0; taken = 0 } → Leaves (planCall f v pb b j a) r b j ys xs ys
     plan-refused f v r xs ys z n e =
-        let tests = first-passes (answersTests b j a) (planTests pb) (sym (x .refusal-is) ∙ z) ∙ (only-test _ ∙ sym (y .refusal-is)) in
+        let tests = first-passes (answersTests b j a) (lentPlanTests pb) (sym (x .refusal-is) ∙ z) ∙ (only-test _ ∙ sym (y .refusal-is)) in
         leaves-refused (planCall f v pb b j a) r b j xs ys (rw e (answers-refused _ (q .refusal) f v b j tests n)) (λ w. n (sym (ap (λ (k : Answer). k .refusal) e) ∙ w))
 
     -- neither refuses: what is told of the plan and the head is told of the bytes
@@ -53,7 +53,7 @@ module _ (pb b j a : List ℕ) {o : Admitted} (x : Admits (answersTests b j a) b
           m₀ ≡ machineOf (begin (o .head)) → Ran (F (q .plan)) m₀ m j j' → Finishes m v r b b' → cs ≡ cond (eqb (m .stop) 0) (G (m .head)) ys →
           Leaves (planCall (F (planOf pb)) v pb b j a) r b' j' cs (G (headAfter (F (planOf pb)) b)) ys
       plan-ran F v b' j' m₀ m r cs ys G s ran fin e =
-          let answers = call-ran x (planTests pb) (F (planOf pb)) v j b' j' m₀ m r z (only-test _ ∙ (sym (y .refusal-is) ∙ w)) s (subst (λ (p : Plan). Ran (F p) m₀ m j j') (y .plan-is w) ran) fin in
+          let answers = call-ran x (lentPlanTests pb) (F (planOf pb)) v j b' j' m₀ m r z (only-test _ ∙ (sym (y .refusal-is) ∙ w)) s (subst (λ (p : Plan). Ran (F p) m₀ m j j') (y .plan-is w) ran) fin in
           let after = ap (λ (k : Machine). k .head) (ran .does (begin (o .head)) j (record { machine = s; journal = refl }) .machine) ∙ of-bytes (λ (p : Plan) (h : Head). F p (begin h) .head) in (
             answers,
             e ∙ (ap (λ (h : Head). cond (eqb (m .stop) 0) (G h) ys) after ∙ ap (λ (n : ℕ). cond (eqb n 0) (G (headAfter (F (planOf pb)) b)) ys) (sym (fin .refusal) ∙ answers .refusal)),

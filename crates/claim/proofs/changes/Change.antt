@@ -21,13 +21,13 @@ use Rattle.guard_steps.specs.peak.{modeAt, peakOf}
 use Rattle.guard_steps.specs.supply.{raise}
 use Rattle.guard_steps.specs.Steps.{leaveDll1, toHxt48, toPlanned, backTo}
 use Rattle.guard_change.specs.Change.{steps, change}
-use Rattle.claim.specs.changes.{headWith, SafeAt, Ready, stopFor, takenFor}
-use Rattle.claim.proofs.changes.Clean.{codes-of, present-clock, target-clock, peak-is}
+use Rattle.claim.specs.Moment.{headWith, SafeAt, Ready, stopFor, takenFor}
+use Rattle.claim.proofs.changes.WholeMegahertz.{codes-of, present-clock, target-clock, peak-is}
 use Rattle.claim.proofs.changes.Rails.{rail-most}
 use Rattle.claim.proofs.changes.View.{Regs, view, Fit, fit-safe, begun}
-use Rattle.claim.proofs.changes.Came.{Came}
-use Rattle.claim.proofs.changes.Supply.{raise-safe, settle-safe}
-use Rattle.claim.proofs.changes.Core.{leave-safe, park-safe, dll1-safe, dividers-safe, planned-safe, back-safe}
+use Rattle.claim.proofs.changes.Progress.{Progress}
+use Rattle.claim.proofs.changes.Supply.{raise-safe, target-rails-safe}
+use Rattle.claim.proofs.changes.Core.{leave-safe, to-hxt48-safe, dll1-safe, dividers-safe, planned-safe, back-safe}
 
 -- what a guarded change with the plan `p` and the answers `a` leaves of the head `h`
 pub record Changed (h : Head) (p : Plan) (a : List ℕ) (r : Run) : Type 0 where
@@ -50,15 +50,20 @@ module _ (h : Head) (p : Plan) (a : List ℕ) (ok : Encodable h) (fit : fits h �
 
   -- the steps, from a peak whose limit is at least each of the three
   steps-safe : (m : HpsysDvfsMode) (f : ℕ) → 0 < f → f ≤ limitHz m → 48000000 ≤ limitHz m → limitHz (modeAt (hclkHz p)) ≤ limitHz m → Fit h f f (view (h .regs)) →
-      Came h (stopFor (p .dll1) a) (takenFor (p .dll1) a) (hclkHz p) (limitHz (modeAt (hclkHz p))) (λ (x : Regs). Unit {0}) (steps m w p a (begin h))
+      Progress h (stopFor (p .dll1) a) (takenFor (p .dll1) a) (hclkHz p) (limitHz (modeAt (hclkHz p))) (λ (x : Regs). Unit {0}) (steps m w p a (begin h))
   steps-safe m f pos here wide there b =
-      let c0 : Came h 0 0 f f (λ (x : Regs). x 5 ≡ w) (begin h) = record { kept = record { moments = moments-begin (SafeAt h) h (fit-safe h (h .regs) (ok .words) b); rest = refl; encodable = ok }; stops = refl; takes = refl; here = λ z. (b, refl) } in
+      let c0 : Progress h 0 0 f f (λ (x : Regs). x 5 ≡ w) (begin h) = record {
+        kept = record { moments = moments-begin (SafeAt h) h (fit-safe h (h .regs) (ok .words) b); rest = refl; encodable = ok };
+        stops = refl;
+        takes = refl;
+        here = λ z. (b, refl);
+      } in
       let r1 = raise m (begin h) in
       let c1 = raise-safe h (λ (v : ℕ). v ≡ w) m pos here wide (begin h) c0 in
       let r2 = leaveDll1 r1 in
       let c2 = leave-safe h w r1 c1 in
       let r3 = toHxt48 r2 in
-      let c3 = park-safe h w (ready .hxt48) wide r2 c2 in
+      let c3 = to-hxt48-safe h w (ready .hxt48) wide r2 c2 in
       let r4 = plannedDll1 (p .dll1) a r3 in
       let c4 = dll1-safe h w a (p .dll1) (codes-of p (accepted .test-3) .stage) r3 c3 in
       let r5 = dividers p r4 in
@@ -66,10 +71,10 @@ module _ (h : Head) (p : Plan) (a : List ℕ) (ok : Encodable h) (fit : fits h �
       let r6 = toPlanned p r5 in
       let c6 = planned-safe h p accepted ready w there r5 c5 in
       let c7 = back-safe h w (ok .codes 5 (omega arith)) r6 c6 in
-      settle-safe h (λ (v : ℕ). Unit {0}) (modeAt (hclkHz p)) (target-clock p accepted) there wide (backTo w r6) c7
+      target-rails-safe h (λ (v : ℕ). Unit {0}) (modeAt (hclkHz p)) (target-clock p accepted) there wide (backTo w r6) c7
 
   -- what they come to
-  left : {top : ℕ} (r : Run) → Came h (stopFor (p .dll1) a) (takenFor (p .dll1) a) (hclkHz p) top (λ (x : Regs). Unit {0}) r → Changed h p a r
+  left : {top : ℕ} (r : Run) → Progress h (stopFor (p .dll1) a) (takenFor (p .dll1) a) (hclkHz p) top (λ (x : Regs). Unit {0}) r → Changed h p a r
   unfolding hclkOf sysOf
   left r c = record {
     moments = c .kept .moments;

@@ -6,7 +6,7 @@ use mathlib.Core.List.{List, [], _∷_}
 use native.Mathlib.Omega.{arith}
 use lib.Dec.{eqb, lit<}
 use borrow.Author.Tests.{eqb-true, eq-eqb, le-leb}
-use Rattle.record.specs.Bytes.{isWithin}
+use Rattle.record.specs.Bytes.{isWithin, bit}
 use Rattle.time.specs.declared.Reading.the-variants.{Unreadable}
 use Rattle.clock.specs.declared.Dll.{Dll}
 use Rattle.clock.specs.declared.MaybeDll.{MaybeDll}
@@ -15,21 +15,19 @@ use Rattle.clock.specs.Clock.{divided}
 use Rattle.clock.proofs.Laws.{divided-most}
 use Rattle.plan.specs.declared.Plan.{Plan}
 use Rattle.plan_clocks.specs.Clocks.{maybeHz, sysHz, hclkHz}
-use Rattle.limits.specs.sources.{isAbsent, coreOnAbsentDll1, coreOnDbl96}
+use Rattle.limits.specs.Limits.{isAbsent, coreOnAbsentDll1, coreOnDbl96}
 use Rattle.verdict.proofs.Passed.{Passed}
 use Rattle.register.specs.Word.{wordOf, wordBytes, byteA, byteB, byteC}
 use Rattle.register.specs.Codes.{largest, fitsRegister}
 use Rattle.register.proofs.Fits.{word-fits}
 use Rattle.head.specs.declared.Head.{Head}
-use Rattle.register.specs.Word.{bit}
 use Rattle.head.specs.Encodable.{Encodable}
 use Rattle.clock_read.specs.Hpsys.{reg, hertz, readyReading, dllReading, dividedReading}
 use Rattle.clock_read.proofs.Codes.{byte-most}
-use Rattle.fit.specs.Fit.{lit}
-use Rattle.journal.specs.Run.{Run, idle, store, delay, Poll, hit, dry, more, poll}
+use Rattle.fit.specs.Fit.{sourceIsOn}
+use Rattle.journal.specs.Run.{Run, idle, store, delay, Poll, readyAfter, neverReady, more, poll}
 use Rattle.dll.specs.Dll.{hpbgOn, vddpswOn, dllOff, dllOn, relocked, setDll, configureDll}
-use Rattle.dll.proofs.words.Fits.{dll-fits, dll-codes}
-use Rattle.dll.proofs.Fits.{hpbg-fits, vddpsw-fits}
+use Rattle.dll.proofs.Fits.{dll-fits, dll-codes, hpbg-fits, vddpsw-fits}
 use Rattle.core_clock.proofs.dividers.Fits.{dividers-fit, select-fits, sys-fits}
 use Rattle.core_clock.specs.dividers.{dividers}
 use Rattle.core_clock.specs.CoreClock.{plannedDll1}
@@ -37,26 +35,26 @@ use Rattle.guard_steps.specs.peak.{modeAt}
 use Rattle.guard_steps.specs.flash.{onDll1, away, moved}
 use Rattle.guard_steps.specs.Steps.{leaveDll1, toHxt48, toPlanned, backTo}
 use Rattle.fit.specs.rail.{limitHz}
-use Rattle.claim.specs.changes.{Ready, oneReady, stopFor, takenFor}
-use Rattle.claim.proofs.changes.Clean.{apart, Coded, codes-of, target-clock}
+use Rattle.claim.specs.Moment.{Ready, oneReady, stopFor, takenFor}
+use Rattle.claim.proofs.changes.WholeMegahertz.{apart, Coded, codes-of, target-clock}
 use Rattle.claim.proofs.changes.View.{Regs, view, put, Flash, clockOf, Fit}
-use Rattle.claim.proofs.changes.Came.{Came, came-now, came-store, came-delay, came-if, came-wait, stopOf}
+use Rattle.claim.proofs.changes.Progress.{Progress, progress-now, progress-store, progress-delay, progress-if, progress-wait, stopOf}
 
 -- a select that is not DLL1, or is moved away, asks nothing of DLL1; DLL1 that is on serves whatever any DLL1 served
-lit-free : (s d e dll2 : ℕ) → eqb s 1 ≡ false → lit s d dll2 ≡ true → lit s e dll2 ≡ true
-unfolding lit
+lit-free : (s d e dll2 : ℕ) → eqb s 1 ≡ false → sourceIsOn s d dll2 ≡ true → sourceIsOn s e dll2 ≡ true
+unfolding sourceIsOn
 lit-free s d e dll2 n t = rw n (rw n at t)
 
-lit-away : (s d e dll2 : ℕ) → lit s d dll2 ≡ true → lit (away s) e dll2 ≡ true
-unfolding lit
+lit-away : (s d e dll2 : ℕ) → sourceIsOn s d dll2 ≡ true → sourceIsOn (away s) e dll2 ≡ true
+unfolding sourceIsOn
 lit-away s d e dll2 t = go (eqb s 1) refl t
   where
-    go : (b : Bool) → eqb s 1 ≡ b → cond b (eqb (byteA d) 1) (cond (eqb s 2) (eqb (byteA dll2) 1) true) ≡ true → lit (cond b 0 s) e dll2 ≡ true
+    go : (b : Bool) → eqb s 1 ≡ b → cond b (eqb (byteA d) 1) (cond (eqb s 2) (eqb (byteA dll2) 1) true) ≡ true → sourceIsOn (cond b 0 s) e dll2 ≡ true
     go true q t = refl
     go false q t = rw q t
 
-lit-on : (s d e dll2 : ℕ) → byteA e ≡ 1 → lit s d dll2 ≡ true → lit s e dll2 ≡ true
-unfolding lit
+lit-on : (s d e dll2 : ℕ) → byteA e ≡ 1 → sourceIsOn s d dll2 ≡ true → sourceIsOn s e dll2 ≡ true
+unfolding sourceIsOn
 lit-on s d e dll2 on = go (eqb s 1)
   where
     go : (b : Bool) → cond b (eqb (byteA d) 1) (cond (eqb s 2) (eqb (byteA dll2) 1) true) ≡ true → cond b (eqb (byteA e) 1) (cond (eqb s 2) (eqb (byteA dll2) 1) true) ≡ true
@@ -154,58 +152,59 @@ on-word d l = record { on = go (d .half) .0; half = halves (d .half); stage = go
 
 module _ (h : Head) (w : ℕ) {s t f top : ℕ} where
   -- (2)
-  pub leave-safe : (r : Run) → Came h s t f top (λ (x : Regs). x 5 ≡ w) r → Came h s t f top (λ (x : Regs). Free x × Was w x) (leaveDll1 r)
+  pub leave-safe : (r : Run) → Progress h s t f top (λ (x : Regs). x 5 ≡ w) r → Progress h s t f top (λ (x : Regs). Free x × Was w x) (leaveDll1 r)
   unfolding leaveDll1
   leave-safe r c =
-      came-if h (onDll1 (reg (r .head) 5)) (store 5 (moved (reg (r .head) 5))) idle r
-      (λ e. came-store h 5 (λ (x : Regs). moved (x 5)) (lit< tt) moved-fits (λ x a q. (
+      progress-if h (onDll1 (reg (r .head) 5)) (store 5 (moved (reg (r .head) 5))) idle r
+      (λ e. progress-store h 5 (λ (x : Regs). moved (x 5)) (lit< tt) moved-fits (λ x a q. (
         record { reads = a .reads; below = a .below; rails = a .rails; flash = flash-moved (x 5) (x 3) (x 3) (x 4) (a .flash); low = a .low },
         (λ d. flash-moved (x 5) (x 3) d (x 4) (a .flash), rw q at (a .flash)),
       )) r c)
-      (λ e. came-now h r (λ a q. (a, (λ d. flash-free (reg (r .head) 5) (reg (r .head) 3) d (reg (r .head) 4) e (a .flash), rw q at (a .flash)))) c)
+      (λ e. progress-now h r (λ a q. (a, (λ d. flash-free (reg (r .head) 5) (reg (r .head) 3) d (reg (r .head) 4) e (a .flash), rw q at (a .flash)))) c)
 
   -- (3)
-  pub park-safe : h .«hxt48_ready» ≡ true → 48000000 ≤ top → (r : Run) → Came h s t f top (λ (x : Regs). Free x × Was w x) r →
-      Came h s t (divided 48000000 (byteA (reg (r .head) 2))) top (λ (x : Regs). Free x × Was w x × (x 1 ≡ 1)) (toHxt48 r)
+  pub to-hxt48-safe : h .«hxt48_ready» ≡ true → 48000000 ≤ top → (r : Run) → Progress h s t f top (λ (x : Regs). Free x × Was w x) r →
+      Progress h s t (divided 48000000 (byteA (reg (r .head) 2))) top (λ (x : Regs). Free x × Was w x × (x 1 ≡ 1)) (toHxt48 r)
   unfolding toHxt48
-  park-safe on wide r c =
-      came-if h (eqb (reg (r .head) 1) 1) idle (store 1 1) r
+  to-hxt48-safe on wide r c =
+      progress-if h (eqb (reg (r .head) 1) 1) idle (store 1 1) r
       (λ e. let k = eqb-true (reg (r .head) 1) 1 e in
-      came-now h r (λ a q. (record { reads = hxt-clock h on (reg (r .head) 2) (reg (r .head) 3) (reg (r .head) 1) k; below = low; rails = a .rails; flash = a .flash; low = a .low }, (q .0, q .1, k))) c)
-      (λ e. came-store h 1 (λ (x : Regs). 1) (lit< tt) (λ _ _. select-fits 1 (omega arith)) (λ x a q. (
+      let reads = hxt-clock h on (reg (r .head) 2) (reg (r .head) 3) (reg (r .head) 1) k in
+      progress-now h r (λ a q. (record { reads = reads; below = low; rails = a .rails; flash = a .flash; low = a .low }, (q .0, q .1, k))) c)
+      (λ e. progress-store h 1 (λ (x : Regs). 1) (lit< tt) (λ _ _. select-fits 1 (omega arith)) (λ x a q. (
         record { reads = rw (q .1) (hxt-clock h on (reg (r .head) 2) (x 3) 1 refl); below = low; rails = a .rails; flash = a .flash; low = a .low },
         (q .0 .0, q .0 .1, refl),
-      )) r (came-now h {Q' = λ (x : Regs). (Free x × Was w x) × (x 2 ≡ reg (r .head) 2)} r (λ a q. (a, (q, refl))) c))
+      )) r (progress-now h {Q' = λ (x : Regs). (Free x × Was w x) × (x 2 ≡ reg (r .head) 2)} r (λ a q. (a, (q, refl))) c))
     where
       low : divided 48000000 (byteA (reg (r .head) 2)) ≤ top
       low = omega (arith, divided-most 48000000 (byteA (reg (r .head) 2)))
 
   -- (4), its stores: the bandgap's, then DLL1 off and on
   bandgap : {Q : Regs → Type 0} (v : Regs → ℕ) → ((g : Head) → Encodable g → fitsRegister 11 (v (view (g .regs))) ≡ true) → ((x : Regs) (u : ℕ) → Q x → Q (put x 11 u)) →
-      (r : Run) → Came h s t f top Q r → Came h s t f top Q (store 11 (v (view (r .head .regs))) r)
-  bandgap v vs g = came-store h 11 v (lit< tt) vs (λ x a q. (record { reads = a .reads; below = a .below; rails = a .rails; flash = a .flash; low = a .low }, g x (v x) q))
+      (r : Run) → Progress h s t f top Q r → Progress h s t f top Q (store 11 (v (view (r .head .regs))) r)
+  bandgap v vs g = progress-store h 11 v (lit< tt) vs (λ x a q. (record { reads = a .reads; below = a .below; rails = a .rails; flash = a .flash; low = a .low }, g x (v x) q))
 
-  hpbg-safe : {Q : Regs → Type 0} → ((x : Regs) (u : ℕ) → Q x → Q (put x 11 u)) → (r : Run) → Came h s t f top Q r → Came h s t f top Q (hpbgOn r)
+  hpbg-safe : {Q : Regs → Type 0} → ((x : Regs) (u : ℕ) → Q x → Q (put x 11 u)) → (r : Run) → Progress h s t f top Q r → Progress h s t f top Q (hpbgOn r)
   unfolding hpbgOn
   hpbg-safe g r c =
-      came-if h (eqb (byteB (reg (r .head) 11)) 0) (store 11 (wordOf 0 1 (byteC (reg (r .head) 11)))) idle r
+      progress-if h (eqb (byteB (reg (r .head) 11)) 0) (store 11 (wordOf 0 1 (byteC (reg (r .head) 11)))) idle r
       (λ e. bandgap (λ (x : Regs). wordOf 0 1 (byteC (x 11))) hpbg-fits g r c) (λ e. c)
 
-  vddpsw-safe : {Q : Regs → Type 0} → ((x : Regs) (u : ℕ) → Q x → Q (put x 11 u)) → (r : Run) → Came h s t f top Q r → Came h s t f top Q (vddpswOn r)
+  vddpsw-safe : {Q : Regs → Type 0} → ((x : Regs) (u : ℕ) → Q x → Q (put x 11 u)) → (r : Run) → Progress h s t f top Q r → Progress h s t f top Q (vddpswOn r)
   unfolding vddpswOn
   vddpsw-safe g r c =
-      came-if h (eqb (byteC (reg (r .head) 11)) 0) (store 11 (wordOf 0 (byteB (reg (r .head) 11)) 1)) idle r
+      progress-if h (eqb (byteC (reg (r .head) 11)) 0) (store 11 (wordOf 0 (byteB (reg (r .head) 11)) 1)) idle r
       (λ e. bandgap (λ (x : Regs). wordOf 0 (byteB (x 11)) 1) vddpsw-fits g r c) (λ e. c)
 
-  off-safe : (r : Run) → Came h s t f top (λ (x : Regs). Free x × Was w x × (x 1 ≡ 1)) r → Came h s t f top (λ (x : Regs). Free x × Could w x × (x 1 ≡ 1)) (dllOff 3 r)
+  off-safe : (r : Run) → Progress h s t f top (λ (x : Regs). Free x × Was w x × (x 1 ≡ 1)) r → Progress h s t f top (λ (x : Regs). Free x × Could w x × (x 1 ≡ 1)) (dllOff 3 r)
   unfolding dllOff
-  off-safe = came-store h 3 (λ (x : Regs). wordOf 0 (byteB (x 3)) (byteC (x 3))) (lit< tt) off-fits (λ x a q.
+  off-safe = progress-store h 3 (λ (x : Regs). wordOf 0 (byteB (x 3)) (byteC (x 3))) (lit< tt) off-fits (λ x a q.
       (dll-fit h (wordOf 0 (byteB (x 3)) (byteC (x 3))) x a (q .0) (q .2), (q .0, λ d on. flash-on w (x 3) d (x 4) on (q .1), q .2)))
 
-  on-safe : (d : Dll) → d .stage ≤ 15 → (r : Run) → Came h s t f top (λ (x : Regs). Free x × Could w x × (x 1 ≡ 1)) r →
-      Came h s t f top (λ (x : Regs). Free x × Was w x × (x 1 ≡ 1) × Locked (Present d) (x 3)) (dllOn 3 d r)
+  on-safe : (d : Dll) → d .stage ≤ 15 → (r : Run) → Progress h s t f top (λ (x : Regs). Free x × Could w x × (x 1 ≡ 1)) r →
+      Progress h s t f top (λ (x : Regs). Free x × Was w x × (x 1 ≡ 1) × Locked (Present d) (x 3)) (dllOn 3 d r)
   unfolding dllOn
-  on-safe d l = came-store h 3 (λ (x : Regs). dllWord d) (lit< tt) (λ _ _. on-word d l .fits) (λ x a q.
+  on-safe d l = progress-store h 3 (λ (x : Regs). dllWord d) (lit< tt) (λ _ _. on-word d l .fits) (λ x a q.
       (dll-fit h (dllWord d) x a (q .0) (q .2), (q .0, q .1 (dllWord d) (on-word d l .on), q .2, refl)))
 
 -- a wait ends exactly if one of the answers is ready
@@ -214,24 +213,24 @@ unfolding poll oneReady
 polled [] = refl
 polled (x ∷ a) = by (eqb x 0) (poll a) (polled a)
   where
-    by : (t : Bool) (q : Poll) → stopOf q ≡ cond (oneReady a) 0 36 → stopOf (cond t (more q) (hit 1)) ≡ cond (cond t (oneReady a) true) 0 36
-    by true (hit n) e = e
-    by true dry e = e
+    by : (t : Bool) (q : Poll) → stopOf q ≡ cond (oneReady a) 0 36 → stopOf (cond t (more q) (readyAfter 1)) ≡ cond (cond t (oneReady a) true) 0 36
+    by true (readyAfter n) e = e
+    by true neverReady e = e
     by false q e = refl
 
 -- (4)
 module _ (h : Head) (w : ℕ) {f top : ℕ} (a : List ℕ) where
-  pub dll1-safe : (m : MaybeDll) → ((d : Dll) → m ≡ Present d → d .stage ≤ 15) → (r : Run) → Came h 0 0 f top (λ (x : Regs). Free x × Was w x × (x 1 ≡ 1)) r →
-      Came h (stopFor m a) (takenFor m a) f top (λ (x : Regs). Free x × Was w x × (x 1 ≡ 1) × Locked m (x 3)) (plannedDll1 m a r)
+  pub dll1-safe : (m : MaybeDll) → ((d : Dll) → m ≡ Present d → d .stage ≤ 15) → (r : Run) → Progress h 0 0 f top (λ (x : Regs). Free x × Was w x × (x 1 ≡ 1)) r →
+      Progress h (stopFor m a) (takenFor m a) f top (λ (x : Regs). Free x × Was w x × (x 1 ≡ 1) × Locked m (x 3)) (plannedDll1 m a r)
   unfolding configureDll setDll relocked
-  dll1-safe Absent l r c = came-now h r (λ b q. (b, (q .0, q .1, q .2, tt))) c
+  dll1-safe Absent l r c = progress-now h r (λ b q. (b, (q .0, q .1, q .2, tt))) c
   dll1-safe (Present d) l r c =
       let r1 = vddpswOn (hpbgOn r) in
       let c1 = vddpsw-safe h w (λ x u q. q) (hpbgOn r) (hpbg-safe h w (λ x u q. q) r c) in
       let r2 = dllOn 3 d (dllOff 3 r1) in
       let c2 = on-safe h w d (l d refl) (dllOff 3 r1) (off-safe h w r1 c1) in
-      subst (λ (n : ℕ). Came h n (takenFor (Present d) a) f top (λ (x : Regs). Free x × Was w x × (x 1 ≡ 1) × Locked (Present d) (x 3)) (plannedDll1 (Present d) a r))
-      (polled a) (came-wait h 3 a (delay 10 r2) (came-delay h 10 r2 c2))
+      subst (λ (n : ℕ). Progress h n (takenFor (Present d) a) f top (λ (x : Regs). Free x × Was w x × (x 1 ≡ 1) × Locked (Present d) (x 3)) (plannedDll1 (Present d) a r))
+      (polled a) (progress-wait h 3 a (delay 10 r2) (progress-delay h 10 r2 c2))
 
 -- a plan's dividers
 abbrev divWord : Plan → ℕ
@@ -266,10 +265,10 @@ module _ (h : Head) (p : Plan) (ok : Passed p) (y : Ready p h) where
 
   module _ (w : ℕ) {s t f top : ℕ} where
     -- (5)
-    pub dividers-safe : 48000000 ≤ top → (r : Run) → Came h s t f top (λ (x : Regs). Free x × Was w x × (x 1 ≡ 1) × Locked (p .dll1) (x 3)) r →
-        Came h s t (divided 48000000 (byteA (divWord p))) top (λ (x : Regs). Was w x × (x 2 ≡ divWord p) × Locked (p .dll1) (x 3)) (dividers p r)
+    pub dividers-safe : 48000000 ≤ top → (r : Run) → Progress h s t f top (λ (x : Regs). Free x × Was w x × (x 1 ≡ 1) × Locked (p .dll1) (x 3)) r →
+        Progress h s t (divided 48000000 (byteA (divWord p))) top (λ (x : Regs). Was w x × (x 2 ≡ divWord p) × Locked (p .dll1) (x 3)) (dividers p r)
     unfolding dividers
-    dividers-safe wide = came-store h 2 (λ (x : Regs). divWord p) (lit< tt) (λ _ _. dividers-fit p (ok .test-3)) (λ x a q. (
+    dividers-safe wide = progress-store h 2 (λ (x : Regs). divWord p) (lit< tt) (λ _ _. dividers-fit p (ok .test-3)) (λ x a q. (
       record {
         reads = hxt-clock h (y .hxt48) (divWord p) (x 3) (x 1) (q .2);
         below = omega (arith, divided-most 48000000 (byteA (divWord p)));
@@ -281,19 +280,19 @@ module _ (h : Head) (p : Plan) (ok : Passed p) (y : Ready p h) where
     ))
 
     -- (6)
-    pub planned-safe : limitHz (modeAt (hclkHz p)) ≤ top → (r : Run) → Came h s t f top (λ (x : Regs). Was w x × (x 2 ≡ divWord p) × Locked (p .dll1) (x 3)) r →
-        Came h s t (hclkHz p) top (Was w) (toPlanned p r)
+    pub planned-safe : limitHz (modeAt (hclkHz p)) ≤ top → (r : Run) → Progress h s t f top (λ (x : Regs). Was w x × (x 2 ≡ divWord p) × Locked (p .dll1) (x 3)) r →
+        Progress h s t (hclkHz p) top (Was w) (toPlanned p r)
     unfolding toPlanned
-    planned-safe wide = came-store h 1 (λ (x : Regs). p .sys) (lit< tt) (λ _ _. sys-fits p (ok .test-3)) (λ x a q. (
+    planned-safe wide = progress-store h 1 (λ (x : Regs). p .sys) (lit< tt) (λ _ _. sys-fits p (ok .test-3)) (λ x a q. (
       record { reads = plan-clock (x 2) (x 3) (q .1) (q .2); below = omega (arith, target-clock p ok); rails = a .rails; flash = a .flash; low = a .low },
       q .0,
     ))
 
 -- (7)
 module _ (h : Head) (w : ℕ) {s t f top : ℕ} where
-  pub back-safe : fitsRegister 5 w ≡ true → (r : Run) → Came h s t f top (Was w) r → Came h s t f top (λ (x : Regs). Unit {0}) (backTo w r)
+  pub back-safe : fitsRegister 5 w ≡ true → (r : Run) → Progress h s t f top (Was w) r → Progress h s t f top (λ (x : Regs). Unit {0}) (backTo w r)
   unfolding backTo
   back-safe fits r c =
-      came-if h (onDll1 w) (store 5 w) idle r
-      (λ e. came-store h 5 (λ (x : Regs). w) (lit< tt) (λ _ _. fits) (λ x a q. (record { reads = a .reads; below = a .below; rails = a .rails; flash = q; low = a .low }, tt)) r c)
-      (λ e. came-now h r (λ a q. (a, tt)) c)
+      progress-if h (onDll1 w) (store 5 w) idle r
+      (λ e. progress-store h 5 (λ (x : Regs). w) (lit< tt) (λ _ _. fits) (λ x a q. (record { reads = a .reads; below = a .below; rails = a .rails; flash = q; low = a .low }, tt)) r c)
+      (λ e. progress-now h r (λ a q. (a, tt)) c)

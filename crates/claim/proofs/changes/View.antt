@@ -16,8 +16,8 @@ use Rattle.head.specs.declared.Head.{Head}
 use Rattle.clock_read.specs.Hpsys.{reg, hertz, readyReading, dllReading, dividedReading, sysOf, hclkOf}
 use Rattle.clock_read.specs.lpsys.{sourceReading, lpsysSysOf, lpsysHclkOf}
 use Rattle.fit.specs.rail.{railOf, railLimit}
-use Rattle.fit.specs.Fit.{within, lit, lpsysFit, fits}
-use Rattle.claim.specs.changes.{SafeAt}
+use Rattle.fit.specs.Fit.{within, sourceIsOn, lpsysFit, fits}
+use Rattle.claim.specs.Moment.{SafeAt}
 
 -- registers as a function, so that what a store leaves is seen by computation
 abbrev pub Regs : Type 0
@@ -38,8 +38,8 @@ view-set l n v h = fun-ext (λ k. at k (eqb k n) refl)
 
 -- no flash select of the word `w` names a DLL that is off
 pub record Flash (w dll1 dll2 : ℕ) : Type 0 where
-  pub one : lit (byteB w) dll1 dll2 ≡ true
-  pub two : lit (byteC w) dll1 dll2 ≡ true
+  pub one : sourceIsOn (byteB w) dll1 dll2 ≡ true
+  pub two : sourceIsOn (byteC w) dll1 dll2 ≡ true
 
 module _ (h : Head) where
   -- HCLK by registers 1 to 3, LPSYS HCLK by 25 and 26
@@ -78,15 +78,15 @@ pub begun : (h : Head) → fits h ≡ true → Begun h
 unfolding fits hclkOf sysOf railLimit lpsysHclkOf lpsysSysOf
 begun h e =
     let a = within (hclkOf h) (railLimit h) in
-    let b = lit (byteB (reg h 5)) (reg h 3) (reg h 4) in
-    let c = lit (byteC (reg h 5)) (reg h 3) (reg h 4) in
+    let b = sourceIsOn (byteB (reg h 5)) (reg h 3) (reg h 4) in
+    let c = sourceIsOn (byteC (reg h 5)) (reg h 3) (reg h 4) in
     let d = lpsysFit (lpsysHclkOf h) (reg h 28) in
     let bcd = and-right a (b && (c && d)) e in
     let cd = and-right b (c && d) bcd in
     go (hclkOf h) refl (and-left a (b && (c && d)) e) (and-left b (c && d) bcd) (and-left c d cd) (and-right c d cd)
   where
-    go : (r : Reading) → hclkOf h ≡ r → within r (railLimit h) ≡ true → lit (byteB (reg h 5)) (reg h 3) (reg h 4) ≡ true →
-        lit (byteC (reg h 5)) (reg h 3) (reg h 4) ≡ true → lpsysFit (lpsysHclkOf h) (reg h 28) ≡ true → Begun h
+    go : (r : Reading) → hclkOf h ≡ r → within r (railLimit h) ≡ true → sourceIsOn (byteB (reg h 5)) (reg h 3) (reg h 4) ≡ true →
+        sourceIsOn (byteC (reg h 5)) (reg h 3) (reg h 4) ≡ true → lpsysFit (lpsysHclkOf h) (reg h 28) ≡ true → Begun h
     go (At f) q w b c d = record {
       hz = f .0;
       at = q;

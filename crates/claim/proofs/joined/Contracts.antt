@@ -7,7 +7,7 @@ use Rattle.call.specs.Call.{Answers}
 use Rattle.guard.specs.Guard.{changeCall}
 use Rattle.lpsys_request.specs.frequency.{lpsysRequest}
 use Rattle.booking.specs.Booking.{book}
-use Rattle.booking.specs.release.{release}
+use Rattle.booking.specs.Release.{release}
 use Rattle.claim.specs.Claim.{changing, booking, releasing, requesting, perform}
 
 module _ (b : List ℕ) (r : Answer) (b' j' : List ℕ) where
@@ -19,7 +19,7 @@ module _ (b : List ℕ) (r : Answer) (b' j' : List ℕ) where
   pub request-performs : (f : ℕ) (j : List ℕ) → Answers (lpsysRequest f b j) r b' j' → Answers (perform (requesting f j) b) r b' j'
   request-performs f j x = x
 
-  -- `booking::book` and `booking::release::release`
+  -- `booking::book` and `booking::release`
   pub book-performs : (t : Task) → Answers (book t b) r b' [] → Answers (perform (booking t) b) r b' []
   book-performs t x = x
 

@@ -1,21 +1,19 @@
 -- Runs whose registers keep to their codes at every moment, and whose heads differ in the registers alone. Assumes nothing.
-use Prim.Native.Nat.{ℕ, _≤_, _<_}
-use mathlib.Core.Path.{_≡_, refl, ap, sym, _∙_, subst}
+use Prim.Native.Nat.{ℕ, _<_}
+use mathlib.Core.Path.{_≡_, refl, ap, sym, subst}
 use mathlib.Core.Bool.{Bool, true, false, cond}
 use mathlib.Core.List.{List}
 use lib.Dec.{eqb}
-use Rattle.time.specs.declared.Reading.{Reading}
-use Rattle.time.specs.declared.Reading.the-variants.{At, Unreadable}
 use Rattle.register.specs.Codes.{fitsRegister}
 use Rattle.register.proofs.Fits.{fits-word}
 use Rattle.head.specs.declared.Head.{Head}
 use Rattle.head.specs.Head.{stored}
 use Rattle.head.specs.Encodable.{Encodable}
 use Rattle.head.proofs.Stores.{store-encodable}
-use Rattle.clock_read.specs.Hpsys.{hclkOf}
-use Rattle.journal.specs.Run.{Run, begin, going, entry, wrote, headed, store, delayed, delay}
+use Rattle.journal.specs.Run.{Run, begin, unlessEnded, entry, withEntry, withHead, store, delay}
+use Rattle.journal.proofs.Delays.{delay-head}
 use Rattle.journal.proofs.Moments.{Moments, moments-begin, moments-now, moments-store, moments-delay}
-use Rattle.claim.specs.changes.{headWith}
+use Rattle.claim.specs.Moment.{headWith}
 
 -- with these registers the head has a record
 abbrev pub Coded : Head → List ℕ → Type 0
@@ -34,10 +32,10 @@ module _ (h : Head) where
   codes-begin ok = record { moments = moments-begin (Coded h) h ok; only = refl }
 
   only-store : (n v : ℕ) (r : Run) → r .head ≡ headWith h (r .head .regs) → store n v r .head ≡ headWith h (store n v r .head .regs)
-  unfolding store going
+  unfolding store unlessEnded
   only-store n v r e = by (eqb (r .stop) 0)
     where
-      by : (t : Bool) → cond t (wrote (entry n v) (headed (stored (r .head) n v) r)) r .head ≡ headWith h (cond t (wrote (entry n v) (headed (stored (r .head) n v) r)) r .head .regs)
+      by : (t : Bool) → cond t (withEntry (entry n v) (withHead (stored (r .head) n v) r)) r .head ≡ headWith h (cond t (withEntry (entry n v) (withHead (stored (r .head) n v) r)) r .head .regs)
       by true = ap (λ (g : Head). stored g n v) e
       by false = e
 
@@ -47,18 +45,6 @@ module _ (h : Head) where
         moments = moments-store (Coded h) (h .regs) n v p (fits-word n v fits) r (c .moments) (store-encodable (headWith h (r .head .regs)) n v (moments-now (Coded h) (h .regs) r (c .moments)) fits);
         only = only-store n v r (c .only);
       }
-
-  delay-head : (us : ℕ) (r : Run) → delay us r .head ≡ r .head
-  unfolding delay going
-  delay-head us r = by (eqb (r .stop) 0)
-    where
-      read : (f : Reading) → delayed f us r .head ≡ r .head
-      read (At f) = refl
-      read Unreadable = refl
-
-      by : (t : Bool) → cond t (delayed (hclkOf (r .head)) us r) r .head ≡ r .head
-      by true = read (hclkOf (r .head))
-      by false = refl
 
   same-head : (r r' : Run) → r' .head ≡ r .head → r .head ≡ headWith h (r .head .regs) → r' .head ≡ headWith h (r' .head .regs)
   same-head r r' e q = subst (λ (g : Head). g ≡ headWith h (g .regs)) (sym e) q

@@ -22,11 +22,11 @@ use Rattle.clock_read.specs.lpsys.{sourceReading, lpsysSysOf, lpsysHclkOf}
 use Rattle.journal.specs.Run.{Run, begin}
 use Rattle.journal.proofs.Moments.{Moments, moments-map, moments-both}
 use Rattle.fit.specs.rail.{railLimit}
-use Rattle.fit.specs.Fit.{within, lit, lpsysFit, fits}
+use Rattle.fit.specs.Fit.{within, sourceIsOn, lpsysFit, fits}
 use Rattle.lpsys_request.specs.Request.{request}
 use Rattle.lpsys_request.specs.Safe.{lpsysHz, LpsysSafe}
-use Rattle.lpsys_request.proofs.Safe.{Kept, request-safe}
-use Rattle.claim.specs.changes.{headWith, SafeAt}
+use Rattle.lpsys_request.proofs.Safe.{KeptLpsys, request-safe}
+use Rattle.claim.specs.Moment.{headWith, SafeAt}
 use Rattle.claim.proofs.requests.Coded.{Coded, Codes}
 use Rattle.claim.proofs.requests.Still.{Same, Still, request-still}
 
@@ -36,10 +36,10 @@ module _ (h : Head) where
   clock = within (hclkOf h) (railLimit h)
 
   abbrev pub first-flash : Bool
-  first-flash = lit (byteB (reg h 5)) (reg h 3) (reg h 4)
+  first-flash = sourceIsOn (byteB (reg h 5)) (reg h 3) (reg h 4)
 
   abbrev pub second-flash : Bool
-  second-flash = lit (byteC (reg h 5)) (reg h 3) (reg h 4)
+  second-flash = sourceIsOn (byteC (reg h 5)) (reg h 3) (reg h 4)
 
   abbrev lpsys : Bool
   lpsys = lpsysFit (lpsysHclkOf h) (reg h 28)
@@ -87,7 +87,7 @@ module _ (h : Head) (fit : fits h ≡ true) where
       record { limit = λ z. limited (leb (divided 48000000 (byteA (reg h 26))) 24000000) (divided 48000000 (byteA (reg h 26))) (reg h 28) refl (rw source-48 at lpsys-fit) z }
 
 -- a head that differs from a fit one only from register 26 on, and keeps the limit of LPSYS, is fit
-module _ (h : Head) (fit : fits h ≡ true) (regs : List ℕ) (kept : Kept regs) (same : Same h regs) (ok : Coded h regs) where
+module _ (h : Head) (fit : fits h ≡ true) (regs : List ℕ) (kept : KeptLpsys regs) (same : Same h regs) (ok : Coded h regs) where
   abbrev g : Head
   g = headWith h regs
 
@@ -140,11 +140,11 @@ module _ (f : ℕ) (h : Head) (ok : Encodable h) (fit : fits h ≡ true) (p : 1 
   still = request-still h f p ok
 
   abbrev All : List ℕ → Type 0
-  All regs = Kept regs × (Same h regs × Coded h regs)
+  All regs = KeptLpsys regs × (Same h regs × Coded h regs)
 
   all : Moments All (h .regs) (request f (begin h))
   all =
-      moments-both Kept (λ (regs : List ℕ). Same h regs × Coded h regs) (h .regs) (request f (begin h)) (request-safe f h ok p (source-48 h fit) (lpsys-safe h fit) q)
+      moments-both KeptLpsys (λ (regs : List ℕ). Same h regs × Coded h regs) (h .regs) (request f (begin h)) (request-safe f h ok p (source-48 h fit) (lpsys-safe h fit) q)
       (moments-both (Same h) (Coded h) (h .regs) (request f (begin h)) (still .same) (still .codes .moments))
 
   pub request-moments : Moments (SafeAt h) (h .regs) (request f (begin h))

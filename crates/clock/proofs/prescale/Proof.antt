@@ -12,8 +12,9 @@ use Rattle.clock.proofs.prescale.Tie as tie
 returns : tie.Need-returns
 unfolding shifted
 returns c =
-    let small : c .before .args .f .0 < 2 ^ 32 = search needs in
-    let high : 32 ≤ c .before .args .exponent = omega arith in
+    let start : tie.Start = search in
+    let small : start .args .f .0 < 2 ^ 32 = search needs in
+    let high : 32 ≤ start .args .exponent = omega arith in
     sym (div-eq-of-lt (lt-of-lt-of-le small (pow-mono high)))
 
 shr-t6 : tie.Need-shr-t6

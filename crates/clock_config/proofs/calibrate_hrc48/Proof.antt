@@ -4,10 +4,10 @@ use mathlib.Core.Path.{_≡_, sym, ap, _∙_}
 use mathlib.Core.Bool.{true, false}
 use Rattle.head.specs.declared.Head.{Head}
 use Rattle.record.specs.Refusals.{firstOf}
-use Rattle.head.specs.from_bytes.Record.{headOf}
+use Rattle.head.specs.Record.{headOf}
 use Rattle.call.proofs.Ending.{call-unadmitted, call-refused, call-ran, call-bytes, call-head}
 use Rattle.clock_config.specs.calibrate.{calibrationTests, calibration}
-use Rattle.clock_config.proofs.Begin.{lent-first}
+use Rattle.call.proofs.Admitting.{lent-answers}
 use borrow.Author.Needs.{needs}
 use Rattle.clock_config.proofs.calibrate_hrc48.Statement.{statement}
 use Rattle.clock_config.proofs.calibrate_hrc48.Tie as tie
@@ -41,7 +41,7 @@ calibrate-hrc48-requires c κs =
     let else1 : tie.Else1 = search in
     let admitted : tie.After-admit-with-answers = search in
     let start : tie.Start = search in
-    lent-first (start .args .buffer .now) _ _ (admitted .admit-with-answers .ensures) (else1 .if1 .left) (begun .start .ensures) (omega arith)
+    lent-answers _ _ 57 _ (begun .start .ensures) (omega arith) _ (admitted .admit-with-answers .ensures) (else1 .if1 .left)
 
 finish-requires : tie.Need-finish-requires
 finish-requires c κs =

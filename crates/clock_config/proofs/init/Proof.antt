@@ -7,13 +7,14 @@ use Rattle.plan.specs.bytes.{planOf}
 use Rattle.readings.specs.Clocks.{clocksOf}
 use Rattle.call.proofs.Ending.{call-bytes}
 use lib.ListN.{replicate}
-use Rattle.head.specs.from_bytes.Record.{headOf}
+use Rattle.head.specs.Record.{headOf}
 use Rattle.journal.specs.Run.{begin}
 use Rattle.clock_init.specs.Init.{init, initWarning}
+use Rattle.verdict.proofs.planned.Plans.{plans}
 use Rattle.call.specs.with_plan.{headAfter}
 use Rattle.clock_config.specs.init.{initCall, initClocks}
 use Rattle.call.proofs.with_plan.Ending.{plan-unadmitted, plan-refused, of-bytes, plan-ran, finishes-as}
-use Rattle.clock_config.proofs.Begin.{lent-first}
+use Rattle.call.proofs.Admitting.{lent-answers}
 use borrow.Author.Needs.{needs}
 use Rattle.clock_config.proofs.init.Statement.{statement}
 use Rattle.clock_config.proofs.init.Tie as tie
@@ -70,7 +71,7 @@ returns-2 c =
     let answers = start .args .answers .now in
     let run = init (planOf plan) answers in
     let warning = initWarning (planOf plan) answers (begin (headOf buffer)) in
-    plan-refused plan buffer journal answers (admitted .admit-with-answers .ensures) (planned .admit .ensures) run warning _ (clocksOf (headAfter run buffer)) (replicate 15 0)
+    plan-refused plan buffer journal answers (admitted .admit-with-answers .ensures) (plans _ _ (planned .admit .ensures)) run warning _ (clocksOf (headAfter run buffer)) (replicate 15 0)
     (else1 .if1 .left) (then2 .if2 .taken) (c .refused2 .ensures)
 
 start-requires : tie.Need-start-requires
@@ -85,9 +86,9 @@ init-requires c κs =
     let else2 : tie.Else2 = search in
     let planned : tie.After-admit = search in
     let w = else2 .if2 .left in
-    let plans = planned .admit .ensures in (
-      lent-first (start .args .buffer .now) _ _ (admitted .admit-with-answers .ensures) (else1 .if1 .left) (begun .start .ensures) (omega arith),
-      (plans .legal-is w, (plans .target-is w, plans .usb-is w)),
+    let given = plans _ _ (planned .admit .ensures) in (
+      lent-answers _ _ 94 _ (begun .start .ensures) (omega arith) _ (admitted .admit-with-answers .ensures) (else1 .if1 .left),
+      (given .legal-is w, (given .target-is w, given .usb-is w)),
     )
 
 clocks-after-requires : tie.Need-clocks-after-requires
@@ -115,7 +116,7 @@ unfolding initCall initClocks
 returns-3 c =
     let begun = (let place : tie.After-start = search in place .start .ensures) in
     let w = (let place : tie.Else2 = search in place .if2 .left) in
-    let plans = (let place : tie.After-admit = search in place .admit .ensures) in
+    let given = (let place : tie.After-admit = search in plans _ _ (place .admit .ensures)) in
     let else1 : tie.Else1 = search in
     let admitted : tie.After-admit-with-answers = search in
     let start : tie.Start = search in
@@ -130,8 +131,8 @@ returns-3 c =
     let z = else1 .if1 .left in
     let warning = initWarning (planOf plan) answers (begin (headOf buffer)) in
     let told = done .init .ensures .1 .told (begin (admitted .admit-with-answers .result .head)) journal (record { machine = begun; journal = refl }) in
-    let value = told ∙ of-bytes plan buffer journal answers admits plans z w (λ (p : Plan) (h : Head). initWarning p answers (begin h)) in
-    plan-ran plan buffer journal answers admits plans z w (λ (p : Plan). init p answers) warning _ _ _ _ _ _ (replicate 15 0) clocksOf begun
+    let value = told ∙ of-bytes plan buffer journal answers admits given z w (λ (p : Plan) (h : Head). initWarning p answers (begin h)) in
+    plan-ran plan buffer journal answers admits given z w (λ (p : Plan). init p answers) warning _ _ _ _ _ _ (replicate 15 0) clocksOf begun
     (done .init .ensures .0 .ran) (finishes-as value (finished .finish .ensures)) (read .clocks-after .ensures)
 
 pub init-spec : {M : Type 1} → statement M

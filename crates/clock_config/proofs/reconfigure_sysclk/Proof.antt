@@ -10,10 +10,11 @@ use Rattle.plan_clocks.specs.declared.Target.{Target}
 use Rattle.plan_clocks.specs.Clocks.{targetOf}
 use Rattle.core_clock.specs.switch.{toPlan}
 use Rattle.call.specs.clocks.{withAudioOf}
+use Rattle.verdict.proofs.planned.Plans.{plans}
 use Rattle.call.specs.with_plan.{headAfter}
 use Rattle.clock_config.specs.reconfigure.{reconfigureCall, reconfigureClocks}
 use Rattle.call.proofs.with_plan.Ending.{plan-unadmitted, plan-refused, plan-ran}
-use Rattle.clock_config.proofs.Begin.{lent-first}
+use Rattle.call.proofs.Admitting.{lent-answers}
 use borrow.Author.Needs.{needs}
 use Rattle.clock_config.proofs.reconfigure_sysclk.Statement.{statement}
 use Rattle.clock_config.proofs.reconfigure_sysclk.Tie as tie
@@ -72,7 +73,8 @@ returns-2 c =
     let former = start .args .clocks .now in
     let run = toPlan (planOf plan) answers in
     let read = withAudioOf former (clocksOf (headAfter run buffer)) in
-    plan-refused plan buffer journal answers (admitted .admit-with-answers .ensures) (planned .admit .ensures) run 0 _ read former (else1 .if1 .left) (then2 .if2 .taken) (c .refused2 .ensures)
+    let given = plans _ _ (planned .admit .ensures) in
+    plan-refused plan buffer journal answers (admitted .admit-with-answers .ensures) given run 0 _ read former (else1 .if1 .left) (then2 .if2 .taken) (c .refused2 .ensures)
 
 start-requires : tie.Need-start-requires
 start-requires c κs = search needs
@@ -87,9 +89,9 @@ config-hcpu-dvfs-requires c κs =
     let else2 : tie.Else2 = search in
     let planned : tie.After-admit = search in
     let w = else2 .if2 .left in
-    let plans = planned .admit .ensures in (
-      lent-first (start .args .buffer .now) _ _ (admitted .admit-with-answers .ensures) (else1 .if1 .left) (begun .start .ensures) (omega arith),
-      (plans .legal-is w, ap (λ (t : Target). t .hclk .0) (plans .target-is w)),
+    let given = plans _ _ (planned .admit .ensures) in (
+      lent-answers _ _ 16 _ (begun .start .ensures) (omega arith) _ (admitted .admit-with-answers .ensures) (else1 .if1 .left),
+      (given .legal-is w, ap (λ (t : Target). t .hclk .0) (given .target-is w)),
     )
 
 clocks-beside-requires : tie.Need-clocks-beside-requires
@@ -126,7 +128,8 @@ returns-3 c =
     let answers = start .args .answers .now in
     let former = start .args .clocks .now in
     let done = switched .config-hcpu-dvfs .ensures .ran in
-    plan-ran plan buffer journal answers (admitted .admit-with-answers .ensures) (planned .admit .ensures) (else1 .if1 .left) (else2 .if2 .left) (λ (p : Plan). toPlan p answers) 0 _ _ _ _ _ _ former
+    let given = plans _ _ (planned .admit .ensures) in
+    plan-ran plan buffer journal answers (admitted .admit-with-answers .ensures) given (else1 .if1 .left) (else2 .if2 .left) (λ (p : Plan). toPlan p answers) 0 _ _ _ _ _ _ former
     (λ (h : Head). withAudioOf former (clocksOf h)) (begun .start .ensures) done (finished .finish .ensures) (read .clocks-beside .ensures)
 
 pub reconfigure-sysclk-spec : {M : Type 1} → statement M

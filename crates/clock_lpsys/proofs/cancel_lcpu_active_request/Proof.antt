@@ -2,10 +2,8 @@
 use native.Mathlib.Omega.{arith}
 use mathlib.Core.List.{[]}
 use Rattle.record.proofs.Refusals.{no-test}
-use Rattle.journal.specs.Machine.{none}
-use Rattle.journal.proofs.Does.{lent-as}
-use Rattle.call.proofs.Ending.{call-unadmitted, call-ran, call-encodable, call-bytes}
-use Rattle.call.proofs.Admitting.{journal-room, started}
+use Rattle.call.proofs.Ending.{call-unadmitted, call-ran, call-bytes}
+use Rattle.call.proofs.Admitting.{lent-journal}
 use Rattle.clock_lpsys.specs.Calls.{cancelLcpu}
 use borrow.Author.Needs.{needs}
 use Rattle.clock_lpsys.proofs.cancel_lcpu_active_request.Statement.{statement}
@@ -38,10 +36,7 @@ cancel-requires c κs =
     let begun : tie.After-start = search in
     let else1 : tie.Else1 = search in
     let admitted : tie.After-admit = search in
-    let start : tie.Start = search in
-    let encodable = call-encodable (admitted .admit .ensures) (else1 .if1 .left) in
-    let room = journal-room (start .args .buffer .now) (start .args .journal .now) (admitted .admit .ensures) (else1 .if1 .left) in
-    lent-as none (started 1 _ _ _ (begun .start .ensures) encodable (omega arith) room) tt
+    lent-journal _ _ 1 _ (begun .start .ensures) (omega arith) (admitted .admit .ensures) (else1 .if1 .left)
 
 finish-requires : tie.Need-finish-requires
 finish-requires c κs =

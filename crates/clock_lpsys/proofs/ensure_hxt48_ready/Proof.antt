@@ -2,10 +2,8 @@
 use native.Mathlib.Omega.{arith}
 use mathlib.Core.List.{[]}
 use Rattle.record.proofs.Refusals.{no-test}
-use Rattle.journal.specs.Machine.{taking}
-use Rattle.journal.proofs.Does.{lent-as}
-use Rattle.call.proofs.Ending.{call-unadmitted, call-ran, call-encodable, call-bytes}
-use Rattle.call.proofs.Admitting.{answers-room, started}
+use Rattle.call.proofs.Ending.{call-unadmitted, call-ran, call-bytes}
+use Rattle.call.proofs.Admitting.{lent-answers}
 use Rattle.clock_lpsys.specs.Calls.{ensureHxt48}
 use borrow.Author.Needs.{needs}
 use Rattle.clock_lpsys.proofs.ensure_hxt48_ready.Statement.{statement}
@@ -38,11 +36,7 @@ hxt48-ready-requires c κs =
     let begun : tie.After-start = search in
     let else1 : tie.Else1 = search in
     let admitted : tie.After-admit-with-answers = search in
-    let start : tie.Start = search in
-    let encodable = call-encodable (admitted .admit-with-answers .ensures) (else1 .if1 .left) in
-    let answers = start .args .answers .now in
-    let room = answers-room (start .args .buffer .now) (start .args .journal .now) answers (admitted .admit-with-answers .ensures) (else1 .if1 .left) in
-    lent-as (taking answers) (started 4 _ _ _ (begun .start .ensures) encodable (omega arith) (room .0)) (rw (begun .start .ensures) (omega arith), room .1)
+    lent-answers _ _ 4 _ (begun .start .ensures) (omega arith) _ (admitted .admit-with-answers .ensures) (else1 .if1 .left)
 
 finish-requires : tie.Need-finish-requires
 finish-requires c κs =

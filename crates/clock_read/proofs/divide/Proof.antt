@@ -17,7 +17,9 @@ divide-requires : tie.Need-divide-requires
 divide-requires c κs = search needs
 
 returns-2 : tie.Need-returns-2
-returns-2 c = simp (c .before .before .f .given .1, hertz-is (c .divide .ensures))
+returns-2 c =
+    let after-f : tie.After-f = search in
+    simp (after-f .f .given .1, hertz-is (c .divide .ensures))
 
 pub divide-spec : {M : Type 1} → statement M
 divide-spec = tie.close (tie.spec enum-known-f enum-told returns divide-requires returns-2)

@@ -11,7 +11,9 @@ a-requires c κs = search needs
 
 returns : tie.Need-returns
 unfolding dllReading
-returns c = simp (← c .before .a .ensures, ne-eqb _ _ (c .if1 .taken))
+returns c =
+    let after-a : tie.After-a = search in
+    simp (← after-a .a .ensures, ne-eqb _ _ (c .if1 .taken))
 
 c-requires : tie.Need-c-requires
 c-requires c κs = search needs
@@ -27,7 +29,12 @@ freq-hz-requires c κs = search needs
 
 returns-2 : tie.Need-returns-2
 unfolding dllReading
-returns-2 c = simp (← c .before .before .before .before .a .ensures, eq-eqb _ _ (c .before .before .before .if1 .left), hertz-is (c .freq-hz .ensures), c .before .b .ensures, c .before .before .c .ensures)
+returns-2 c =
+    let after-b : tie.After-b = search in
+    let after-c : tie.After-c = search in
+    let else1 : tie.Else1 = search in
+    let after-a : tie.After-a = search in
+    simp (← after-a .a .ensures, eq-eqb _ _ (else1 .if1 .left), hertz-is (c .freq-hz .ensures), after-b .b .ensures, after-c .c .ensures)
 
 pub dll-freq-spec : {M : Type 1} → statement M
 dll-freq-spec =

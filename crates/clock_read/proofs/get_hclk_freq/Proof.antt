@@ -21,7 +21,10 @@ divide-requires c κs = search needs
 
 returns : tie.Need-returns
 unfolding hclkOf
-returns c = simp (c .divide .ensures, c .before .get-clk-sys-freq .ensures, c .before .before .a .ensures)
+returns c =
+    let after-get-clk-sys-freq : tie.After-get-clk-sys-freq = search in
+    let after-a : tie.After-a = search in
+    simp (c .divide .ensures, after-get-clk-sys-freq .get-clk-sys-freq .ensures, after-a .a .ensures)
 
 pub get-hclk-freq-spec : {M : Type 1} → statement M
 get-hclk-freq-spec =

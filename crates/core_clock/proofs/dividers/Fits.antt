@@ -17,7 +17,7 @@ use Rattle.register.proofs.Fits.{word-fits}
 pub dividers-fit : (p : Plan) → legal p ≡ true → fitsRegister 2 (wordOf (p .hdiv) (p .pdiv1) (p .pdiv2)) ≡ true
 unfolding legal encoded isWithin largest
 dividers-fit p e =
-    let at = within-at (drop 3 (encoded p)) plan.largest e in
+    let at = within-at (drop 3 (encoded p)) plan.largestOfPlan e in
     word-fits 2 (p .hdiv) (p .pdiv1) (p .pdiv2) (simp (le-leb _ 255 (at 1), le-leb _ 7 (at 2), le-leb _ 7 (at 3)))
 
 pub select-fits : (v : ℕ) → v ≤ 3 → fitsRegister 1 v ≡ true
@@ -30,4 +30,4 @@ select-fits (suc (suc (suc (suc v)))) h = absurd (omega arith)
 
 pub sys-fits : (p : Plan) → legal p ≡ true → fitsRegister 1 (p .sys) ≡ true
 unfolding legal encoded
-sys-fits p e = select-fits (p .sys) (within-at (drop 3 (encoded p)) plan.largest e 0)
+sys-fits p e = select-fits (p .sys) (within-at (drop 3 (encoded p)) plan.largestOfPlan e 0)

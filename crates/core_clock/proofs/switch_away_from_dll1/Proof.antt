@@ -5,7 +5,7 @@ use mathlib.Core.Bool.{cond}
 use lib.Dec.{eqb}
 use borrow.Author.Tests.{eq-eqb, ne-eqb}
 use Rattle.head.specs.declared.Head.{Head}
-use Rattle.register.specs.Word.{bit}
+use Rattle.record.specs.Bytes.{bit}
 use Rattle.clock_read.specs.Hpsys.{reg}
 use Rattle.journal.specs.Run.{idle, store}
 use Rattle.core_clock.specs.CoreClock.{switchAway}

@@ -3,7 +3,7 @@ use Prim.Native.Nat.{ℕ}
 use mathlib.Core.Path.{sym, ap, _∙_}
 use borrow.Author.Tests.{not-true, not-false}
 use Rattle.clock_read.specs.Hpsys.{reg}
-use Rattle.fit.specs.Fit.{lit}
+use Rattle.fit.specs.Fit.{sourceIsOn}
 use Rattle.fit.proofs.Tests.{unread, too-fast, carried, first-dark, second-dark, rest}
 use borrow.Author.Needs.{needs}
 use Rattle.fit.proofs.is_fit.Statement.{statement}
@@ -19,15 +19,21 @@ enum-told : tie.Need-enum-told
 enum-told c = search needs
 
 returns : tie.Need-returns
-returns c = sym (unread _ (sym (c .before .before .get-hclk-freq .ensures) ∙ c .enum-told .given .1))
+returns c =
+    let read : tie.After-get-hclk-freq = search in
+    sym (unread _ (sym (read .get-hclk-freq .ensures) ∙ c .enum-told .given .1))
 
 rail-limit-requires : tie.Need-rail-limit-requires
 rail-limit-requires c κs = search needs
 
 returns-2 : tie.Need-returns-2
 returns-2 c =
-    let h = c .before .before .before .before .before .before .before .before .args .h in
-    sym (too-fast h _ (sym (c .before .before .before .before .before .before .before .get-hclk-freq .ensures) ∙ c .before .before .before .before .before .hclk .given .1) (rw (c .before .before .before .rail-limit .ensures) at (c .if1 .taken)))
+    let rail : tie.After-rail-limit = search in
+    let known : tie.After-hclk = search in
+    let read : tie.After-get-hclk-freq = search in
+    let start : tie.Start = search in
+    let h = start .args .h in
+    sym (too-fast h _ (sym (read .get-hclk-freq .ensures) ∙ known .hclk .given .1) (rw (rail .rail-limit .ensures) at (c .if1 .taken)))
 
 array-read-b : tie.Need-array-read-b
 array-read-b c = search needs
@@ -35,20 +41,27 @@ array-read-b c = search needs
 b-requires : tie.Need-b-requires
 b-requires c κs = search needs
 
-array-read-is-lit : tie.Need-array-read-is-lit
-array-read-is-lit c = search needs
+array-read-source-is-on : tie.Need-array-read-source-is-on
+array-read-source-is-on c = search needs
 
-array-read-is-lit-2 : tie.Need-array-read-is-lit-2
-array-read-is-lit-2 c = search needs
+array-read-source-is-on-2 : tie.Need-array-read-source-is-on-2
+array-read-source-is-on-2 c = search needs
 
-is-lit-requires : tie.Need-is-lit-requires
-is-lit-requires c κs = search needs
+source-is-on-requires : tie.Need-source-is-on-requires
+source-is-on-requires c κs = search needs
 
 returns-3 : tie.Need-returns-3
 returns-3 c =
-    let h = c .before .before .before .before .before .before .before .before .before .before .before .before .args .h in
-    sym (first-dark h (carried h _ (sym (c .before .before .before .before .before .before .before .before .before .before .before .get-hclk-freq .ensures) ∙ c .before .before .before .before .before .before .before .before .before .hclk .given .1) (rw (c .before .before .before .before .before .before .before .rail-limit .ensures) at (c .before .before .before .before .if1 .left)))
-    (ap (λ (s : ℕ). lit s (reg h 3) (reg h 4)) (sym (c .before .before .b .ensures)) ∙ (sym (c .before .is-lit .ensures) ∙ not-true _ (c .if2 .taken))))
+    let first : tie.After-source-is-on = search in
+    let byte-b : tie.After-b = search in
+    let else1 : tie.Else1 = search in
+    let rail : tie.After-rail-limit = search in
+    let known : tie.After-hclk = search in
+    let read : tie.After-get-hclk-freq = search in
+    let start : tie.Start = search in
+    let h = start .args .h in
+    sym (first-dark h (carried h _ (sym (read .get-hclk-freq .ensures) ∙ known .hclk .given .1) (rw (rail .rail-limit .ensures) at (else1 .if1 .left)))
+    (ap (λ (s : ℕ). sourceIsOn s (reg h 3) (reg h 4)) (sym (byte-b .b .ensures)) ∙ (sym (first .source-is-on .ensures) ∙ not-true _ (c .if2 .taken))))
 
 array-read-c : tie.Need-array-read-c
 array-read-c c = search needs
@@ -56,31 +69,54 @@ array-read-c c = search needs
 c-requires : tie.Need-c-requires
 c-requires c κs = search needs
 
-array-read-is-lit-3 : tie.Need-array-read-is-lit-3
-array-read-is-lit-3 c = search needs
+array-read-source-is-on-3 : tie.Need-array-read-source-is-on-3
+array-read-source-is-on-3 c = search needs
 
-array-read-is-lit-4 : tie.Need-array-read-is-lit-4
-array-read-is-lit-4 c = search needs
+array-read-source-is-on-4 : tie.Need-array-read-source-is-on-4
+array-read-source-is-on-4 c = search needs
 
-is-lit-requires-2 : tie.Need-is-lit-requires-2
-is-lit-requires-2 c κs = search needs
+source-is-on-requires-2 : tie.Need-source-is-on-requires-2
+source-is-on-requires-2 c κs = search needs
 
 returns-4 : tie.Need-returns-4
 returns-4 c =
-    let h = c .before .before .before .before .before .before .before .before .before .before .before .before .before .before .before .args .h in
-    sym (second-dark h (carried h _ (sym (c .before .before .before .before .before .before .before .before .before .before .before .before .before .before .get-hclk-freq .ensures) ∙ c .before .before .before .before .before .before .before .before .before .before .before .before .hclk .given .1) (rw (c .before .before .before .before .before .before .before .before .before .before .rail-limit .ensures) at (c .before .before .before .before .before .before .before .if1 .left)))
-    (ap (λ (s : ℕ). lit s (reg h 3) (reg h 4)) (sym (c .before .before .before .before .before .b .ensures)) ∙ (sym (c .before .before .before .before .is-lit .ensures) ∙ not-false _ (c .before .before .before .if2 .left)))
-    (ap (λ (s : ℕ). lit s (reg h 3) (reg h 4)) (sym (c .before .before .c .ensures)) ∙ (sym (c .before .is-lit2 .ensures) ∙ not-true _ (c .if3 .taken))))
+    let second : tie.After-source-is-on2 = search in
+    let byte-c : tie.After-c = search in
+    let else2 : tie.Else2 = search in
+    let first : tie.After-source-is-on = search in
+    let byte-b : tie.After-b = search in
+    let else1 : tie.Else1 = search in
+    let rail : tie.After-rail-limit = search in
+    let known : tie.After-hclk = search in
+    let read : tie.After-get-hclk-freq = search in
+    let start : tie.Start = search in
+    let h = start .args .h in
+    let within = carried h _ (sym (read .get-hclk-freq .ensures) ∙ known .hclk .given .1) (rw (rail .rail-limit .ensures) at (else1 .if1 .left)) in
+    let on-1 = ap (λ (s : ℕ). sourceIsOn s (reg h 3) (reg h 4)) (sym (byte-b .b .ensures)) ∙ (sym (first .source-is-on .ensures) ∙ not-false _ (else2 .if2 .left)) in
+    let off-2 = ap (λ (s : ℕ). sourceIsOn s (reg h 3) (reg h 4)) (sym (byte-c .c .ensures)) ∙ (sym (second .source-is-on2 .ensures) ∙ not-true _ (c .if3 .taken)) in
+    sym (second-dark h within on-1 off-2)
 
 is-lpsys-fit-requires : tie.Need-is-lpsys-fit-requires
 is-lpsys-fit-requires c κs = search needs
 
 returns-5 : tie.Need-returns-5
 returns-5 c =
-    let h = c .before .before .before .before .before .before .before .before .before .before .before .before .before .before .before .before .args .h in
-    c .is-lpsys-fit .ensures ∙ sym (rest h (carried h _ (sym (c .before .before .before .before .before .before .before .before .before .before .before .before .before .before .before .get-hclk-freq .ensures) ∙ c .before .before .before .before .before .before .before .before .before .before .before .before .before .hclk .given .1) (rw (c .before .before .before .before .before .before .before .before .before .before .before .rail-limit .ensures) at (c .before .before .before .before .before .before .before .before .if1 .left)))
-    (ap (λ (s : ℕ). lit s (reg h 3) (reg h 4)) (sym (c .before .before .before .before .before .before .b .ensures)) ∙ (sym (c .before .before .before .before .before .is-lit .ensures) ∙ not-false _ (c .before .before .before .before .if2 .left)))
-    (ap (λ (s : ℕ). lit s (reg h 3) (reg h 4)) (sym (c .before .before .before .c .ensures)) ∙ (sym (c .before .before .is-lit2 .ensures) ∙ not-false _ (c .before .if3 .left))))
+    let else3 : tie.Else3 = search in
+    let second : tie.After-source-is-on2 = search in
+    let byte-c : tie.After-c = search in
+    let else2 : tie.Else2 = search in
+    let first : tie.After-source-is-on = search in
+    let byte-b : tie.After-b = search in
+    let else1 : tie.Else1 = search in
+    let rail : tie.After-rail-limit = search in
+    let known : tie.After-hclk = search in
+    let read : tie.After-get-hclk-freq = search in
+    let start : tie.Start = search in
+    let h = start .args .h in
+    let within = carried h _ (sym (read .get-hclk-freq .ensures) ∙ known .hclk .given .1) (rw (rail .rail-limit .ensures) at (else1 .if1 .left)) in
+    let on-1 = ap (λ (s : ℕ). sourceIsOn s (reg h 3) (reg h 4)) (sym (byte-b .b .ensures)) ∙ (sym (first .source-is-on .ensures) ∙ not-false _ (else2 .if2 .left)) in
+    let on-2 = ap (λ (s : ℕ). sourceIsOn s (reg h 3) (reg h 4)) (sym (byte-c .c .ensures)) ∙ (sym (second .source-is-on2 .ensures) ∙ not-false _ (else3 .if3 .left)) in
+    c .is-lpsys-fit .ensures ∙ sym (rest h within on-1 on-2)
 
 pub is-fit-spec : {M : Type 1} → statement M
 is-fit-spec =
@@ -94,15 +130,15 @@ is-fit-spec =
     returns-2
     array-read-b
     b-requires
-    array-read-is-lit
-    array-read-is-lit-2
-    is-lit-requires
+    array-read-source-is-on
+    array-read-source-is-on-2
+    source-is-on-requires
     returns-3
     array-read-c
     c-requires
-    array-read-is-lit-3
-    array-read-is-lit-4
-    is-lit-requires-2
+    array-read-source-is-on-3
+    array-read-source-is-on-4
+    source-is-on-requires-2
     returns-4
     is-lpsys-fit-requires
     returns-5)

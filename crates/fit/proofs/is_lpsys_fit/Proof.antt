@@ -16,16 +16,25 @@ enum-told : tie.Need-enum-told
 enum-told c = search needs
 
 returns : tie.Need-returns
-returns c = rw (sym (c .before .before .get-lpsys-hclk-freq .ensures) ∙ c .enum-told .given .1)
+returns c =
+    let after-get-lpsys-hclk-freq : tie.After-get-lpsys-hclk-freq = search in
+    rw (sym (after-get-lpsys-hclk-freq .get-lpsys-hclk-freq .ensures) ∙ c .enum-told .given .1)
 
 returns-2 : tie.Need-returns-2
-returns-2 c = rw (sym (c .before .before .before .before .before .get-lpsys-hclk-freq .ensures) ∙ c .before .before .before .f .given .1, le-leb (c .before .before .before .f .given .0 .0 .0) 24000000 (omega (arith, c .if1 .taken)))
+returns-2 c =
+    let after-f : tie.After-f = search in
+    let after-get-lpsys-hclk-freq : tie.After-get-lpsys-hclk-freq = search in
+    rw (sym (after-get-lpsys-hclk-freq .get-lpsys-hclk-freq .ensures) ∙ after-f .f .given .1, le-leb (after-f .f .given .0 .0 .0) 24000000 (omega (arith, c .if1 .taken)))
 
 element-copy-out-result : tie.Need-element-copy-out-result
 element-copy-out-result c = search needs
 
 returns-3 : tie.Need-returns-3
-returns-3 c = rw (sym (c .before .before .before .before .before .before .get-lpsys-hclk-freq .ensures) ∙ c .before .before .before .before .f .given .1, lt-leb _ 24000000 (c .before .if1 .left))
+returns-3 c =
+    let else1 : tie.Else1 = search in
+    let after-f : tie.After-f = search in
+    let after-get-lpsys-hclk-freq : tie.After-get-lpsys-hclk-freq = search in
+    rw (sym (after-get-lpsys-hclk-freq .get-lpsys-hclk-freq .ensures) ∙ after-f .f .given .1, lt-leb _ 24000000 (else1 .if1 .left))
 
 pub is-lpsys-fit-spec : {M : Type 1} → statement M
 is-lpsys-fit-spec =

@@ -1,19 +1,25 @@
 -- `guard::change` meets its contract: the shared tests, the plan's, its own, then the steps. Assumes nothing.
 use native.Mathlib.Omega.{arith}
-use mathlib.Core.Path.{_≡_, sym, ap, _∙_}
-use Rattle.plan.specs.bytes.{planOf}
+use mathlib.Core.Path.{_≡_, ap}
 use Rattle.plan_clocks.specs.declared.Target.{Target}
-use Rattle.plan_clocks.specs.Clocks.{targetOf}
-use Rattle.call.proofs.Admitting.{answers-room, started}
-use Rattle.call.proofs.Ending.{call-unadmitted, call-refused-by, call-ran, call-encodable, call-bytes}
-use Rattle.guard_change.specs.Change.{change}
-use Rattle.guard.specs.Guard.{changeTests, changeCall}
-use Rattle.guard.proofs.Ways.{tests-plan, tests-own, ran-planned}
-use Rattle.journal.specs.Machine.{taking}
-use Rattle.journal.proofs.Does.{clauses-taking, lent-as}
+use Rattle.plan_clocks.specs.Clocks.{hclkHz, targetOf}
+use Rattle.verdict.proofs.planned.Plans.{Plans, plans}
+use Rattle.call.proofs.Admitting.{call-encodable, call-bytes, lent-answers}
+use Rattle.guard.proofs.Ways.{change-unadmitted, change-plan-refused, change-refused, change-ran}
 use borrow.Author.Needs.{needs}
 use Rattle.guard.proofs.change.Statement.{statement}
 use Rattle.guard.proofs.change.Tie as tie
+
+-- the plan that the call goes on with
+planned : (c : tie.After-admit) → let start : tie.Start = search in Plans (start .args .plan .now) (c .admit .result)
+planned c = plans _ _ (c .admit .ensures)
+
+-- and its HCLK
+hclk : (c : tie.Else2) → let admitted : tie.After-admit = search in admitted .admit .result .target .hclk .0 ≡ hclkHz (admitted .admit .result .plan)
+unfolding targetOf
+hclk c =
+    let admitted : tie.After-admit = search in
+    ap (λ (t : Target). t .hclk .0) (planned admitted .target-is (c .if2 .left))
 
 admit-with-answers-requires : tie.Need-admit-with-answers-requires
 admit-with-answers-requires c κs = search needs
@@ -28,10 +34,10 @@ same-length-2 : tie.Need-same-length-2
 same-length-2 c = search needs
 
 returns : tie.Need-returns
-unfolding changeCall
 returns c =
-    let start = c .before .before .before .before .before .before .before .before .before .before in
-    call-unadmitted (c .before .before .before .admit-with-answers .ensures) (changeTests (start .args .plan .now) (start .args .buffer .now)) (change (planOf (start .args .plan .now)) (start .args .answers .now)) 0 _ _ (c .before .if1 .taken) (c .refused .ensures)
+    let then1 : tie.Then1 = search in
+    let admitted : tie.After-admit-with-answers = search in
+    change-unadmitted _ _ _ _ (admitted .admit-with-answers .ensures) _ (then1 .if1 .taken) (c .refused .ensures)
 
 admit-requires : tie.Need-admit-requires
 admit-requires c κs = search needs
@@ -46,17 +52,19 @@ same-length-4 : tie.Need-same-length-4
 same-length-4 c = search needs
 
 returns-2 : tie.Need-returns-2
-unfolding changeCall
 returns-2 c =
-    let start = c .before .before .before .before .before .before .before .before .before .before .before .before .before in
-    let admitted = c .before .before .before .before .before .before .admit-with-answers .ensures in
-    let planned = c .before .before .before .admit .ensures in
-    let z = c .before .before .before .before .if1 .left in
-    call-refused-by admitted (changeTests (start .args .plan .now) (start .args .buffer .now)) _ (change (planOf (start .args .plan .now)) (start .args .answers .now)) 0 _ _ z (tests-plan (start .args .plan .now) (start .args .buffer .now) (start .args .journal .now) (start .args .answers .now) admitted planned z (c .before .if2 .taken)) (c .before .if2 .taken) (c .refused2 .ensures)
+    let then2 : tie.Then2 = search in
+    let judged : tie.After-admit = search in
+    let else1 : tie.Else1 = search in
+    let admitted : tie.After-admit-with-answers = search in
+    change-plan-refused _ _ _ _ (admitted .admit-with-answers .ensures) (planned judged) (else1 .if1 .left) _ (then2 .if2 .taken) (c .refused2 .ensures)
 
 refusal-requires : tie.Need-refusal-requires
-unfolding targetOf
-refusal-requires c κs = (call-encodable (c .before .before .before .before .before .before .before .admit-with-answers .ensures) (c .before .before .before .before .before .if1 .left), ap (λ (t : Target). t .hclk .0) (c .before .before .before .before .admit .ensures .target-is (c .before .before .if2 .left)))
+refusal-requires c κs =
+    let else2 : tie.Else2 = search in
+    let else1 : tie.Else1 = search in
+    let admitted : tie.After-admit-with-answers = search in
+    (call-encodable (admitted .admit-with-answers .ensures) (else1 .if1 .left), hclk else2)
 
 refused-requires-3 : tie.Need-refused-requires-3
 refused-requires-3 c κs = search needs
@@ -68,30 +76,36 @@ same-length-6 : tie.Need-same-length-6
 same-length-6 c = search needs
 
 returns-3 : tie.Need-returns-3
-unfolding changeCall
 returns-3 c =
-    let start = c .before .before .before .before .before .before .before .before .before .before .before .before .before .before .before .before .before in
-    let admitted = c .before .before .before .before .before .before .before .before .before .before .admit-with-answers .ensures in
-    let planned = c .before .before .before .before .before .before .before .admit .ensures in
-    let z = c .before .before .before .before .before .before .before .before .if1 .left in
-    call-refused-by admitted (changeTests (start .args .plan .now) (start .args .buffer .now)) _ (change (planOf (start .args .plan .now)) (start .args .answers .now)) 0 _ _ z (tests-own (start .args .plan .now) (start .args .buffer .now) (start .args .journal .now) (start .args .answers .now) admitted planned z (c .before .before .before .before .before .if2 .left) ∙ sym (c .before .before .refusal .ensures)) (c .before .if3 .taken) (c .refused3 .ensures)
+    let then3 : tie.Then3 = search in
+    let tested : tie.After-refusal = search in
+    let else2 : tie.Else2 = search in
+    let judged : tie.After-admit = search in
+    let else1 : tie.Else1 = search in
+    let admitted : tie.After-admit-with-answers = search in
+    let refuses = change-refused _ _ _ _ (admitted .admit-with-answers .ensures) (planned judged) (else1 .if1 .left) (else2 .if2 .left) _ (tested .refusal .ensures) in
+    refuses _ (then3 .if3 .taken) (c .refused3 .ensures)
 
 start-requires : tie.Need-start-requires
 start-requires c κs = search needs
 
 change-requires : tie.Need-change-requires
-unfolding targetOf
 change-requires c κs =
-    let start = c .before .before .before .before .before .before .before .before .before .before .before .before .before .before .before .before .before .before in
-    let admitted = c .before .before .before .before .before .before .before .before .before .before .before .admit-with-answers .ensures in
-    let planned = c .before .before .before .before .before .before .before .before .admit .ensures in
-    let z = c .before .before .before .before .before .before .before .before .before .if1 .left in
-    let w = c .before .before .before .before .before .before .if2 .left in
-    let room = answers-room (start .args .buffer .now) (start .args .journal .now) (start .args .answers .now) admitted z in
-    (lent-as (taking _) (started 20 _ _ _ (c .before .start .ensures) (call-encodable admitted z) (omega arith) (room .0)) (rw (c .before .start .ensures) (omega arith), room .1), (planned .legal-is w, ap (λ (t : Target). t .hclk .0) (planned .target-is w)))
+    let started : tie.After-start = search in
+    let else2 : tie.Else2 = search in
+    let judged : tie.After-admit = search in
+    let else1 : tie.Else1 = search in
+    let admitted : tie.After-admit-with-answers = search in
+    let lent = lent-answers _ _ 20 _ (started .start .ensures) (omega arith) _ (admitted .admit-with-answers .ensures) (else1 .if1 .left) in
+    (lent, (planned judged .legal-is (else2 .if2 .left), hclk else2))
 
 finish-requires : tie.Need-finish-requires
-finish-requires c κs = (clauses-taking (c .before .before .before .change .ensures) .1 .0 .encodable, call-bytes (c .before .before .before .before .before .before .before .before .before .before .before .before .before .before .before .admit-with-answers .ensures) (c .before .before .before .before .before .before .before .before .before .before .before .before .before .if1 .left))
+finish-requires c κs =
+    let changed : tie.After-change = search in
+    let judged : tie.After-admit = search in
+    let else1 : tie.Else1 = search in
+    let admitted : tie.After-admit-with-answers = search in
+    (changed .change .ensures .encodable, call-bytes (admitted .admit-with-answers .ensures) (else1 .if1 .left))
 
 same-length-7 : tie.Need-same-length-7
 same-length-7 c = search needs
@@ -100,15 +114,18 @@ same-length-8 : tie.Need-same-length-8
 same-length-8 c = search needs
 
 returns-4 : tie.Need-returns-4
-unfolding changeCall
 returns-4 c =
-    let start = c .before .before .before .before .before .before .before .before .before .before .before .before .before .before .before .before .before .before .before .before .before .before .before .before .before in
-    let admitted = c .before .before .before .before .before .before .before .before .before .before .before .before .before .before .before .before .before .before .admit-with-answers .ensures in
-    let planned = c .before .before .before .before .before .before .before .before .before .before .before .before .before .before .before .admit .ensures in
-    let z = c .before .before .before .before .before .before .before .before .before .before .before .before .before .before .before .before .if1 .left in
-    let w = c .before .before .before .before .before .before .before .before .before .before .before .before .before .if2 .left in
-    let ran = ran-planned (start .args .plan .now) (start .args .buffer .now) (start .args .journal .now) (start .args .answers .now) admitted planned z w (clauses-taking (c .before .before .before .before .before .before .change .ensures) .0) in
-    call-ran admitted (changeTests (start .args .plan .now) (start .args .buffer .now)) (change (planOf (start .args .plan .now)) (start .args .answers .now)) 0 _ _ _ _ _ _ z (tests-own (start .args .plan .now) (start .args .buffer .now) (start .args .journal .now) (start .args .answers .now) admitted planned z w ∙ (sym (c .before .before .before .before .before .before .before .before .before .before .refusal .ensures) ∙ c .before .before .before .before .before .before .before .before .before .if3 .left)) (c .before .before .before .before .before .before .before .before .start .ensures) ran (c .before .before .finish .ensures)
+    let finished : tie.After-finish = search in
+    let changed : tie.After-change = search in
+    let started : tie.After-start = search in
+    let else3 : tie.Else3 = search in
+    let tested : tie.After-refusal = search in
+    let else2 : tie.Else2 = search in
+    let judged : tie.After-admit = search in
+    let else1 : tie.Else1 = search in
+    let admitted : tie.After-admit-with-answers = search in
+    let runs = change-ran _ _ _ _ (admitted .admit-with-answers .ensures) (planned judged) (else1 .if1 .left) (else2 .if2 .left) _ (tested .refusal .ensures) in
+    runs _ _ _ _ _ (else3 .if3 .left) (started .start .ensures) (changed .change .ensures .ran) (finished .finish .ensures)
 
 pub change-spec : {M : Type 1} → statement M
 change-spec =

@@ -5,6 +5,7 @@ use Rattle.head.specs.declared.Head.{Head}
 use Rattle.time.specs.Frequency.{hzOr}
 use Rattle.plan_clocks.specs.Clocks.{hclkHz}
 use Rattle.clock_read.specs.Hpsys.{reg, hclkOf}
+use Rattle.register.specs.Numbers.{FLASH}
 use Rattle.guard_steps.specs.peak.{peakOf}
 use Rattle.guard_change.specs.Change.{steps, change}
 use Rattle.journal.proofs.Does.{_then_, by-head, lent-within}
@@ -21,18 +22,18 @@ get-hclk-freq-requires c κs = search needs
 unwrap-or-requires : tie.Need-unwrap-or-requires
 unwrap-or-requires c κs = search needs
 
-peak-requires : tie.Need-peak-requires
-peak-requires c κs = search needs
+of-requires : tie.Need-of-requires
+of-requires c κs = search needs
 
-leave-requires : tie.Need-leave-requires
-leave-requires c κs =
+steps1to4-requires : tie.Need-steps1to4-requires
+steps1to4-requires c κs =
     let start : tie.Start = search in
     (lent-within (omega arith) (start .pre .0), start .pre .1 .0)
 
-arrive-requires : tie.Need-arrive-requires
-arrive-requires c κs =
+steps5to8-requires : tie.Need-steps5to8-requires
+steps5to8-requires c κs =
     let start : tie.Start = search in
-    (search needs, (start .pre .1 .0, (start .pre .0 .encodable .codes 5 (omega arith), start .pre .1 .1)))
+    (search needs, (start .pre .1 .0, (start .pre .0 .encodable .codes FLASH (omega arith), start .pre .1 .1)))
 
 same-length : tie.Need-same-length
 same-length c = search needs
@@ -41,16 +42,16 @@ returns : tie.Need-returns
 unfolding change
 returns c =
     let start : tie.Start = search in
-    let arrived : tie.After-arrive = search in
-    let left : tie.After-leave = search in
-    let found : tie.After-peak = search in
+    let arrived : tie.After-steps5to8 = search in
+    let left : tie.After-steps1to4 = search in
+    let found : tie.After-of = search in
     let present : tie.After-unwrap-or = search in
     let read : tie.After-get-hclk-freq = search in
     let p = start .args .p in
-    let peak : peakOf (hzOr 0 (hclkOf (start .args .m .head))) (hclkHz p) ≡ found .peak .result =
-    simp (← read .get-hclk-freq .ensures, ← present .unwrap-or .ensures, ← start .pre .1 .1) (sym (found .peak .ensures)) in
-    by-head (λ (h : Head). steps (peakOf (hzOr 0 (hclkOf h)) (hclkHz p)) (reg h 5) p (start .args .answers .now))
-    (rw peak (left .leave .ensures then arrived .arrive .ensures))
+    let peak : peakOf (hzOr 0 (hclkOf (start .args .m .head))) (hclkHz p) ≡ found .of .result =
+    simp (← read .get-hclk-freq .ensures, ← present .unwrap-or .ensures, ← start .pre .1 .1) (sym (found .of .ensures)) in
+    by-head (λ (h : Head). steps (peakOf (hzOr 0 (hclkOf h)) (hclkHz p)) (reg h FLASH) p (start .args .answers .now))
+    (rw peak (left .steps1to4 .ensures then arrived .steps5to8 .ensures))
 
 pub change-spec : {M : Type 1} → statement M
 change-spec =
@@ -59,8 +60,8 @@ change-spec =
     element-copy-out-selects
     get-hclk-freq-requires
     unwrap-or-requires
-    peak-requires
-    leave-requires
-    arrive-requires
+    of-requires
+    steps1to4-requires
+    steps5to8-requires
     same-length
     returns)

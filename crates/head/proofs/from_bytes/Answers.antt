@@ -4,7 +4,7 @@ use mathlib.Core.Path.{_≡_, sym, _∙_}
 use mathlib.Core.List.{List}
 use borrow.Author.Tests.{eq-eqb}
 use Rattle.head.specs.declared.from_bytes.Decoded.{Decoded}
-use Rattle.head.specs.from_bytes.Record.{headRefusal, headOf}
+use Rattle.head.specs.Record.{headRefusal, headOf}
 use Rattle.head.specs.Encodable.{Encodable}
 use Rattle.head.specs.from_bytes.Decodes.{Decodes}
 

@@ -17,7 +17,7 @@ use Rattle.task.specs.Task.{noTask, InBytes}
 use Rattle.task.specs.bytes.{taskIn, taskBytes, countIn, tasksIn, placesIn}
 use Rattle.register.specs.Codes.{largest, codesOf, fitsRegister}
 use Rattle.head.specs.Head.{booked}
-use Rattle.head.specs.from_bytes.Record.{headRefusal, headOf, frontOf, stateOf, recordOf, written}
+use Rattle.head.specs.Record.{headRefusal, headOf, frontOf, stateOf, recordOf, written}
 use Rattle.register.specs.bytes.{registersIn}
 use Rattle.head.specs.Encodable.{Encodable}
 use Rattle.record.proofs.Items.{items-length, items-at, of-items, joined-at}

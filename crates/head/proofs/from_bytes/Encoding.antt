@@ -8,16 +8,15 @@ use native.Mathlib.Numerals.{one-add}
 use lib.ListN.{length, getD, take, drop, length-append, length-drop, take-append-drop}
 use lib.Seq.{take-append-add, getD-drop, length-take-le, getD-take, drop-at, drop-drop}
 use Rattle.layout.specs.Layout.{registerSize, registersSize, hxt48ReadyAt, codedSize, stateSize, firstTask, taskSize, versionAt, lengthOf, bufferBytes}
-use Rattle.record.specs.Bytes.{twoBytes, isWithin}
+use Rattle.record.specs.Bytes.{twoBytes, isWithin, bit}
 use Rattle.head.specs.declared.Head.{Head}
 use Rattle.register.specs.Word.{wordIn, wordBytes}
 use Rattle.record.specs.Items.{items, joined}
 use Rattle.task.specs.Task.{noTask}
 use Rattle.task.specs.bytes.{taskIn, taskBytes, countIn, tasksIn, placesIn}
 use Rattle.register.specs.Codes.{largest}
-use Rattle.register.specs.Word.{bit}
 use Rattle.head.specs.Head.{booked}
-use Rattle.head.specs.from_bytes.Record.{headRefusal, headOf, frontOf, stateOf, recordOf, written}
+use Rattle.head.specs.Record.{headRefusal, headOf, frontOf, stateOf, recordOf, written}
 use Rattle.register.specs.bytes.{registersIn}
 use Rattle.head.specs.Encodable.{Encodable}
 use Rattle.record.proofs.Items.{items-of}

@@ -17,7 +17,7 @@ use Rattle.task.proofs.bytes.Laws.{task-length}
 use Rattle.head.specs.declared.Head.{Head}
 use Rattle.head.proofs.Fields.{state-length}
 use Rattle.head.specs.Head.{booked}
-use Rattle.head.specs.from_bytes.Record.{frontOf, stateOf, recordOf, written}
+use Rattle.head.specs.Record.{frontOf, stateOf, recordOf, written}
 
 module _ (h : Head) (words : length (h .regs) ≡ 35) (room : h .count ≤ mostTasks) where
   -- the record's parts have the lengths that their places say

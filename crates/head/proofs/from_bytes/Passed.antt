@@ -13,7 +13,7 @@ use Rattle.record.specs.Refusals.{refuse, firstOf}
 use Rattle.record.proofs.Bytes.{and-left, and-right}
 use Rattle.task.specs.Task.{allOk, distinct}
 use Rattle.register.specs.Codes.{largest}
-use Rattle.head.specs.from_bytes.Record.{lengthFits, headRefusal}
+use Rattle.head.specs.Record.{lengthFits, headRefusal}
 use Rattle.task.specs.bytes.{countIn, tasksIn, tasksFit}
 
 -- the tests of `headRefusal`, all passed

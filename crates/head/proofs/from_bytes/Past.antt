@@ -8,7 +8,7 @@ use lib.Seq.{getD-take, getD-drop, length-take-le, ext-getD}
 use Rattle.layout.specs.Layout.{registerSize, taskCountAt, codedSize, firstTask, taskSize, versionAt, recordSize, bufferBytes}
 use Rattle.register.specs.Word.{wordIn}
 use Rattle.task.specs.bytes.{taskIn, countIn, tasksIn, tasksFit, placesIn}
-use Rattle.head.specs.from_bytes.Record.{lengthFits, headRefusal, headOf}
+use Rattle.head.specs.Record.{lengthFits, headRefusal, headOf}
 use Rattle.register.specs.bytes.{registersIn}
 use Rattle.record.proofs.Items.{items-same}
 use Rattle.register.proofs.Words.{word-same}

@@ -6,7 +6,7 @@ use mathlib.Core.List.{List}
 use lib.Dec.{eqb}
 use Rattle.head.specs.Encodable.{Encodable}
 use Rattle.head.specs.declared.from_bytes.Decoded.{Decoded}
-use Rattle.head.specs.from_bytes.Record.{headRefusal, headOf, blank}
+use Rattle.head.specs.Record.{headRefusal, headOf, blank}
 
 -- the answer of decoding the bytes `b`: the refusal, and the head where there is none
 pub record Decodes (b : List ℕ) (r : Decoded) : Type 0 where

@@ -22,8 +22,9 @@ refuse-requires c κs = search needs
 
 returns : tie.Need-returns
 returns c =
+    let after-enum-told : tie.After-enum-told = search in
     let read : tie.After-get-hclk-freq = search in
-    let unread = sym (read .get-hclk-freq .ensures) ∙ c .before .enum-told .given .1 in
+    let unread = sym (read .get-hclk-freq .ensures) ∙ after-enum-told .enum-told .given .1 in
     does-as (delay-unread _ _ unread) (omega arith) (beside (c .refuse .ensures))
 
 mul-write : tie.Need-mul-write

@@ -10,7 +10,9 @@ returns c = simp (ne-eqb _ _ (c .if1 .taken))
 
 returns-2 : tie.Need-returns-2
 unfolding dll1CoreTooSlow
-returns-2 c = simp (eq-eqb _ _ (c .before .if1 .left))
+returns-2 c =
+    let else1 : tie.Else1 = search in
+    simp (eq-eqb _ _ (else1 .if1 .left))
 
 pub dll1-core-too-slow-spec : {M : Type 1} → statement M
 dll1-core-too-slow-spec = tie.close (tie.spec returns returns-2)

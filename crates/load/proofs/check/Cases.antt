@@ -14,7 +14,7 @@ use Rattle.task.specs.Task.{allOk, distinct}
 use Rattle.task.specs.bytes.{taskIn, placed}
 use Rattle.task.proofs.bytes.Places.{placed-first}
 use Rattle.load.specs.Load.{loadOf}
-use Rattle.load.specs.check.{listedSize, listed, checkRefusal, loadCheck}
+use Rattle.load.specs.check.{listedSize, listedTasks, checkRefusal, loadCheck}
 
 module _ (b : List ℕ) where
   -- a refusal gives no load, and no refusal the load of the list
@@ -22,7 +22,7 @@ module _ (b : List ℕ) where
   unfolding loadCheck
   refuses n z e = rw (e, ne-eqb n 0 z)
 
-  pub accepts : checkRefusal b ≡ 0 → record { refusal = 0; load = loadOf (listed b) } ≡ loadCheck b
+  pub accepts : checkRefusal b ≡ 0 → record { refusal = 0; load = loadOf (listedTasks b) } ≡ loadCheck b
   unfolding loadCheck
   accepts e = rw e
 
@@ -37,19 +37,19 @@ module _ (b : List ℕ) where
     too-many q = rw (p, q)
 
     module _ (q : ltb mostTasks (length b / listedSize) ≡ false) where
-      pub one-wrong : allOk (listed b) ≡ false → checkRefusal b ≡ 16
+      pub one-wrong : allOk (listedTasks b) ≡ false → checkRefusal b ≡ 16
       unfolding checkRefusal firstOf
       one-wrong r = rw (p, q, r)
 
-      pub two-alike : allOk (listed b) ≡ true → distinct (listed b) ≡ false → checkRefusal b ≡ 40
+      pub two-alike : allOk (listedTasks b) ≡ true → distinct (listedTasks b) ≡ false → checkRefusal b ≡ 40
       unfolding checkRefusal firstOf
       two-alike r s = rw (p, q, r, s)
 
-      pub none : allOk (listed b) ≡ true → distinct (listed b) ≡ true → checkRefusal b ≡ 0
+      pub none : allOk (listedTasks b) ≡ true → distinct (listedTasks b) ≡ true → checkRefusal b ≡ 0
       unfolding checkRefusal firstOf
       none r s = rw (p, q, r, s)
 
   -- the first places of those read are the list
-  pub first-listed : take (length b / listedSize) (placed (items taskIn listedSize (length b / listedSize) b) (length b / listedSize)) ≡ listed b
-  unfolding listed
+  pub first-listed : take (length b / listedSize) (placed (items taskIn listedSize (length b / listedSize) b) (length b / listedSize)) ≡ listedTasks b
+  unfolding listedTasks
   first-listed = placed-first (items taskIn listedSize (length b / listedSize) b) (length b / listedSize) (items-length taskIn listedSize (length b / listedSize) b)

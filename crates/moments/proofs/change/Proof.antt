@@ -13,10 +13,14 @@ change-requires : tie.Need-change-requires
 change-requires c κs = search needs
 
 array-share-prefix-journal : tie.Need-array-share-prefix-journal
-array-share-prefix-journal c = entries-within _ _ _ _ _ _ _ (c .before .before .before .before .change .ensures)
+array-share-prefix-journal c =
+    let after-change : tie.After-change = search in
+    entries-within _ _ _ _ _ _ _ (after-change .change .ensures)
 
 slice-aggregate-show : tie.Need-slice-aggregate-show
-slice-aggregate-show c = sym (length-take-le _ _ (entries-within _ _ _ _ _ _ _ (c .before .before .before .before .before .change .ensures)))
+slice-aggregate-show c =
+    let after-change : tie.After-change = search in
+    sym (length-take-le _ _ (entries-within _ _ _ _ _ _ _ (after-change .change .ensures)))
 
 show-requires : tie.Need-show-requires
 show-requires c κs = search needs

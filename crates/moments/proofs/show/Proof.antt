@@ -5,7 +5,7 @@ use mathlib.Core.Path.{_≡_}
 use native.Mathlib.Omega.{arith}
 use lib.ListN.{length}
 use borrow.Author.Needs.{needs}
-use Rattle.head.specs.from_bytes.Record.{bufferBytes}
+use Rattle.head.specs.Record.{bufferBytes}
 use Rattle.call.proofs.Ending.{call-encodable, call-bytes}
 use Rattle.moments.proofs.show.Statement.{statement}
 use Rattle.moments.proofs.show.Tie as tie
@@ -29,10 +29,16 @@ heading-requires : tie.Need-heading-requires Inv-loop μ-loop
 heading-requires c κs = search needs
 
 first-requires : tie.Need-first-requires Inv-loop μ-loop
-first-requires c κs = call-encodable (c .before .before .before .admit-head .ensures) (c .before .if1 .left)
+first-requires c κs =
+    let else1 : tie.Else1 Inv-loop μ-loop = search in
+    let after-admit-head : tie.After-admit-head Inv-loop μ-loop = search in
+    call-encodable (after-admit-head .admit-head .ensures) (else1 .if1 .left)
 
 loop-holds : tie.Need-loop-holds Inv-loop μ-loop
-loop-holds c = (omega arith, (search needs, call-bytes (c .before .before .before .before .admit-head .ensures) (c .before .before .if1 .left)))
+loop-holds c =
+    let else1 : tie.Else1 Inv-loop μ-loop = search in
+    let after-admit-head : tie.After-admit-head Inv-loop μ-loop = search in
+    (omega arith, (search needs, call-bytes (after-admit-head .admit-head .ensures) (else1 .if1 .left)))
 
 mul-entry : tie.Need-mul-entry Inv-loop μ-loop
 mul-entry c = search needs

@@ -14,7 +14,9 @@ returns : tie.Need-returns
 returns c = search needs
 
 next-requires : tie.Need-next-requires
-next-requires c κs = call-encodable (c .before .before .admit-head .ensures) (c .if1 .left)
+next-requires c κs =
+    let after-admit-head : tie.After-admit-head = search in
+    call-encodable (after-admit-head .admit-head .ensures) (c .if1 .left)
 
 returns-2 : tie.Need-returns-2
 returns-2 c = search needs

@@ -3,11 +3,11 @@ use Prim.Native.Nat.{ℕ}
 use mathlib.Core.Path.{_≡_, refl}
 use mathlib.Core.Bool.{Bool, true, false}
 use mathlib.Core.List.{List}
-use borrow.Author.Tests.{not-false, eqb-true}
+use borrow.Author.Tests.{eqb-true}
 use lib.Dec.{eqb}
 use lib.ListN.{length, getD}
 use Rattle.record.specs.Bytes.{twoBytes}
-use Rattle.record.proofs.Refusals.{none-at, not-refused}
+use Rattle.record.proofs.Refusals.{none-refused, not-refused-unless}
 use Rattle.plan.specs.codes.{coded}
 use Rattle.plan.specs.tests.{recordTests, recordRefusal}
 
@@ -21,10 +21,10 @@ pub record WellFormed (b : List ℕ) : Type 0 where
 pub well-formed : (b : List ℕ) → recordRefusal b ≡ 0 → WellFormed b
 unfolding recordRefusal
 well-formed b e =
-    let at = none-at (recordTests b) e in
+    let none = none-refused (recordTests b) e in
     record {
-      bytes = eqb-true _ _ (not-false (eqb (length b) 20) (not-refused 0 _ (at 0)));
-      length-field = eqb-true _ _ (not-false (eqb (twoBytes (getD b 0 0) (getD b 1 0)) 18) (not-refused 0 _ (at 1)));
-      version = eqb-true _ _ (not-false (eqb (getD b 2 0) 1) (not-refused 1 _ (at 2)));
-      codes = not-false (coded b) (not-refused 2 _ (at 3));
+      bytes = eqb-true _ _ (not-refused-unless 0 (eqb (length b) 20) search);
+      length-field = eqb-true _ _ (not-refused-unless 0 (eqb (twoBytes (getD b 0 0) (getD b 1 0)) 18) search);
+      version = eqb-true _ _ (not-refused-unless 1 (eqb (getD b 2 0) 1) search);
+      codes = not-refused-unless 2 (coded b) search;
     }

@@ -8,13 +8,13 @@ use lib.Dec.{eqb}
 use lib.ListN.{getD, drop}
 use lib.Seq.{getD-drop}
 use borrow.Author.Tests.{eqb-true, eqb-false}
-use Rattle.record.specs.Bytes.{isWithin}
+use Rattle.record.specs.Bytes.{isWithin, bit}
 use Rattle.record.proofs.Bytes.{and-left, and-right, within-at}
 use Rattle.clock.specs.declared.Dll.{Dll}
 use Rattle.clock.specs.declared.MaybeDll.{MaybeDll}
 use Rattle.clock.specs.declared.MaybeDll.the-variants.{Absent, Present}
-use Rattle.plan.specs.Code.{largest, bit, presentOf, stageOf, halfOf}
-use Rattle.plan.specs.codes.{settled, coded, dllOf}
+use Rattle.plan.specs.Code.{largestOfPlan, presentOf, stageOf, halfOf}
+use Rattle.plan.specs.codes.{dllBytesLegal, coded, dllOf}
 
 -- a flag's byte and back
 pub bit-back : (x : ℕ) → x ≤ 1 → bit (eqb x 1) ≡ x
@@ -37,8 +37,8 @@ pub record DllBytes (present stage half : ℕ) : Type 0 where
   pub stage-is : stageOf (dllOf present stage half) ≡ stage
   pub half-is : halfOf (dllOf present stage half) ≡ half
 
-pub dll-bytes : (p s h : ℕ) → p ≤ 1 → h ≤ 1 → settled p s h ≡ true → DllBytes p s h
-unfolding settled dllOf
+pub dll-bytes : (p s h : ℕ) → p ≤ 1 → h ≤ 1 → dllBytesLegal p s h ≡ true → DllBytes p s h
+unfolding dllBytesLegal dllOf
 dll-bytes p s h hp hh = by (eqb p 1) refl
   where
     by : (t : Bool) → eqb p 1 ≡ t → (t || (eqb s 0 && eqb h 0)) ≡ true → DllBytes p s h
@@ -54,29 +54,29 @@ unfolding dllOf
 dll-back Absent = refl
 dll-back (Present d) = simp (flag-back (d .half))
 
-pub dll-settled : (d : MaybeDll) → settled (presentOf d) (stageOf d) (halfOf d) ≡ true
-unfolding settled
+pub dll-settled : (d : MaybeDll) → dllBytesLegal (presentOf d) (stageOf d) (halfOf d) ≡ true
+unfolding dllBytesLegal
 dll-settled Absent = refl
 dll-settled (Present d) = refl
 
 -- what the codes of a record say of its bytes
 module _ (b : List ℕ) (ok : coded b ≡ true) where
   abbrev within : Bool
-  within = isWithin (drop 3 b) largest
+  within = isWithin (drop 3 b) largestOfPlan
 
   abbrev settled1 : Bool
-  settled1 = settled (getD b 7 0) (getD b 8 0) (getD b 9 0)
+  settled1 = dllBytesLegal (getD b 7 0) (getD b 8 0) (getD b 9 0)
 
   abbrev settled2 : Bool
-  settled2 = settled (getD b 10 0) (getD b 11 0) (getD b 12 0)
+  settled2 = dllBytesLegal (getD b 10 0) (getD b 11 0) (getD b 12 0)
 
   both : (within && settled1) ≡ true
   unfolding coded
   both = and-left (within && settled1) settled2 ok
 
   -- byte 3 + k is at most its largest value
-  pub at-most : (k : ℕ) → getD b (3 + k) 0 ≤ getD largest k 0
-  at-most k = rw getD-drop at (within-at (drop 3 b) largest (and-left within settled1 both) k)
+  pub at-most : (k : ℕ) → getD b (3 + k) 0 ≤ getD largestOfPlan k 0
+  at-most k = rw getD-drop at (within-at (drop 3 b) largestOfPlan (and-left within settled1 both) k)
 
   pub dll1-bytes : DllBytes (getD b 7 0) (getD b 8 0) (getD b 9 0)
   dll1-bytes = dll-bytes _ _ _ (at-most 4) (at-most 6) (and-right within settled1 both)

@@ -10,13 +10,18 @@ enum-known-d : tie.Need-enum-known-d
 enum-known-d c = search needs
 
 freq-hz-requires : tie.Need-freq-hz-requires
-freq-hz-requires c κs = rw (c .before .d .given .1) at (c .before .before .before .pre)
+freq-hz-requires c κs =
+    let after-d : tie.After-d = search in
+    let start : tie.Start = search in
+    rw (after-d .d .given .1) at (start .pre)
 
 returns : tie.Need-returns
 returns c = search needs
 
 returns-2 : tie.Need-returns-2
-returns-2 c = simp (c .before .before .d .given .1, c .freq-hz .ensures)
+returns-2 c =
+    let after-d : tie.After-d = search in
+    simp (after-d .d .given .1, c .freq-hz .ensures)
 
 pub dll-freq-spec : {M : Type 1} → statement M
 dll-freq-spec = tie.close (tie.spec enum-told enum-known-d freq-hz-requires returns returns-2)

@@ -17,13 +17,18 @@ add-t6 : tie.Need-add-t6
 add-t6 c = search needs
 
 mul-t7 : tie.Need-mul-t7
-mul-t7 c = omega (arith, rw (c .before .d .given .1) at (c .before .before .before .pre))
+mul-t7 c =
+    let after-d : tie.After-d = search in
+    let start : tie.Start = search in
+    omega (arith, rw (after-d .d .given .1) at (start .pre))
 
 returns : tie.Need-returns
 returns c = search needs
 
 returns-2 : tie.Need-returns-2
-returns-2 c = simp (c .before .d .given .1)
+returns-2 c =
+    let after-d : tie.After-d = search in
+    simp (after-d .d .given .1)
 
 pub dll-whole-freq-spec : {M : Type 1} → statement M
 dll-whole-freq-spec =

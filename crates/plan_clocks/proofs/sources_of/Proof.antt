@@ -13,7 +13,9 @@ usb-source-requires c κs = search needs
 
 returns : tie.Need-returns
 unfolding sourcesOf
-returns c = simp (hertz-is (c .before .sysclk .ensures), hertz-is (c .usb-source .ensures))
+returns c =
+    let after-sysclk : tie.After-sysclk = search in
+    simp (hertz-is (after-sysclk .sysclk .ensures), hertz-is (c .usb-source .ensures))
 
 pub sources-of-spec : {M : Type 1} → statement M
 sources-of-spec = tie.close (tie.spec sysclk-requires usb-source-requires returns)

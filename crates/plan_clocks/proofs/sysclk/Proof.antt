@@ -14,7 +14,9 @@ dll-freq-requires c κs = search needs
 
 returns-2 : tie.Need-returns-2
 unfolding sysHz
-returns-2 c = simp (eq-eqb _ _ (c .before .if1 .left), c .dll-freq .ensures)
+returns-2 c =
+    let else1 : tie.Else1 = search in
+    simp (eq-eqb _ _ (else1 .if1 .left), c .dll-freq .ensures)
 
 pub sysclk-spec : {M : Type 1} → statement M
 sysclk-spec = tie.close (tie.spec returns dll-freq-requires returns-2)

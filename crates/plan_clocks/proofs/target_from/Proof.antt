@@ -20,7 +20,11 @@ usb-divider-requires c κs = search needs
 returns : tie.Need-returns
 unfolding sourcesOf targetOf hclkHz pclk1Hz pclk2Hz usbDivider
 returns c =
-    simp (hertz-is (c .before .before .prescale .ensures), hertz-is (c .before .prescale2 .ensures), hertz-is (c .before .before .before .divide .ensures), c .usb-divider .ensures, c .before .before .before .before .before .before .pre)
+    let after-prescale2 : tie.After-prescale2 = search in
+    let after-prescale : tie.After-prescale = search in
+    let after-divide : tie.After-divide = search in
+    let start : tie.Start = search in
+    simp (hertz-is (after-prescale .prescale .ensures), hertz-is (after-prescale2 .prescale2 .ensures), hertz-is (after-divide .divide .ensures), c .usb-divider .ensures, start .pre)
 
 pub target-from-spec : {M : Type 1} → statement M
 target-from-spec =

@@ -42,7 +42,32 @@ from-reading-requires-6 c κs = search needs
 
 returns : tie.Need-returns
 unfolding lpsysOf
-returns c = simp (c .before .before .before .before .before .before .before .before .before .before .from-reading .ensures, c .before .before .before .before .before .before .before .before .before .before .before .get-lpsys-sysclk-freq .ensures, c .before .before .before .before .before .before .before .before .from-reading2 .ensures, c .before .before .before .before .before .before .before .before .before .get-lpsys-hclk-freq .ensures, c .before .before .before .before .before .before .from-reading3 .ensures, c .before .before .before .before .before .before .before .get-lpsys-pclk1-freq .ensures, c .before .before .before .before .from-reading4 .ensures, c .before .before .before .before .before .get-lpsys-pclk2-freq .ensures, c .before .before .from-reading5 .ensures, c .before .before .before .get-lpsys-clk-peri-freq .ensures, c .from-reading6 .ensures, c .before .get-lpsys-mac-clk-freq .ensures)
+returns c =
+    let after-get-lpsys-mac-clk-freq : tie.After-get-lpsys-mac-clk-freq = search in
+    let after-from-reading5 : tie.After-from-reading5 = search in
+    let after-get-lpsys-clk-peri-freq : tie.After-get-lpsys-clk-peri-freq = search in
+    let after-from-reading4 : tie.After-from-reading4 = search in
+    let after-get-lpsys-pclk2-freq : tie.After-get-lpsys-pclk2-freq = search in
+    let after-from-reading3 : tie.After-from-reading3 = search in
+    let after-get-lpsys-pclk1-freq : tie.After-get-lpsys-pclk1-freq = search in
+    let after-from-reading2 : tie.After-from-reading2 = search in
+    let after-get-lpsys-hclk-freq : tie.After-get-lpsys-hclk-freq = search in
+    let after-from-reading : tie.After-from-reading = search in
+    let after-get-lpsys-sysclk-freq : tie.After-get-lpsys-sysclk-freq = search in
+    simp (
+      after-from-reading .from-reading .ensures,
+      after-get-lpsys-sysclk-freq .get-lpsys-sysclk-freq .ensures,
+      after-from-reading2 .from-reading2 .ensures,
+      after-get-lpsys-hclk-freq .get-lpsys-hclk-freq .ensures,
+      after-from-reading3 .from-reading3 .ensures,
+      after-get-lpsys-pclk1-freq .get-lpsys-pclk1-freq .ensures,
+      after-from-reading4 .from-reading4 .ensures,
+      after-get-lpsys-pclk2-freq .get-lpsys-pclk2-freq .ensures,
+      after-from-reading5 .from-reading5 .ensures,
+      after-get-lpsys-clk-peri-freq .get-lpsys-clk-peri-freq .ensures,
+      c .from-reading6 .ensures,
+      after-get-lpsys-mac-clk-freq .get-lpsys-mac-clk-freq .ensures,
+    )
 
 pub lpsys-numbers-spec : {M : Type 1} → statement M
 lpsys-numbers-spec =

@@ -10,19 +10,32 @@ decode-requires : tie.Need-decode-requires
 decode-requires c κs = search needs
 
 returns : tie.Need-returns
-returns c = (c .before .before .decode .ensures .refusal, simp (← c .before .before .decode .ensures .refusal, ne-eqb _ _ (c .if1 .taken)))
+returns c =
+    let after-decode : tie.After-decode = search in
+    (after-decode .decode .ensures .refusal, simp (← after-decode .decode .ensures .refusal, ne-eqb _ _ (c .if1 .taken)))
 
 read-hpsys-clocks-from-hw-requires : tie.Need-read-hpsys-clocks-from-hw-requires
-read-hpsys-clocks-from-hw-requires c κs = read-encodable (c .before .before .before .decode .ensures) (c .before .if1 .left)
+read-hpsys-clocks-from-hw-requires c κs =
+    let else1 : tie.Else1 = search in
+    let after-decode : tie.After-decode = search in
+    read-encodable (after-decode .decode .ensures) (else1 .if1 .left)
 
 numbers-requires : tie.Need-numbers-requires
 numbers-requires c κs = search needs
 
 returns-2 : tie.Need-returns-2
-returns-2 c = (
-  sym (not-refused (c .before .before .before .before .before .decode .ensures) (c .before .before .before .if1 .left)),
-  simp (eq-eqb _ _ (not-refused (c .before .before .before .before .before .decode .ensures) (c .before .before .before .if1 .left)), c .numbers .ensures, c .before .read-hpsys-clocks-from-hw .ensures, read-head (c .before .before .before .before .before .decode .ensures) (c .before .before .before .if1 .left)),
-)
+returns-2 c =
+    let after-read-hpsys-clocks-from-hw : tie.After-read-hpsys-clocks-from-hw = search in
+    let else1 : tie.Else1 = search in
+    let after-decode : tie.After-decode = search in (
+      sym (not-refused (after-decode .decode .ensures) (else1 .if1 .left)),
+      simp (
+        eq-eqb _ _ (not-refused (after-decode .decode .ensures) (else1 .if1 .left)),
+        c .numbers .ensures,
+        after-read-hpsys-clocks-from-hw .read-hpsys-clocks-from-hw .ensures,
+        read-head (after-decode .decode .ensures) (else1 .if1 .left),
+      ),
+    )
 
 pub read-clocks-spec : {M : Type 1} → statement M
 read-clocks-spec =

@@ -10,16 +10,20 @@ decode-requires : tie.Need-decode-requires
 decode-requires c κs = search needs
 
 returns : tie.Need-returns
-returns c = (c .before .before .decode .ensures .refusal, simp (← c .before .before .decode .ensures .refusal, ne-eqb _ _ (c .if1 .taken)))
+returns c =
+    let after-decode : tie.After-decode = search in
+    (after-decode .decode .ensures .refusal, simp (← after-decode .decode .ensures .refusal, ne-eqb _ _ (c .if1 .taken)))
 
 lpsys-numbers-requires : tie.Need-lpsys-numbers-requires
 lpsys-numbers-requires c κs = search needs
 
 returns-2 : tie.Need-returns-2
-returns-2 c = (
-  sym (not-refused (c .before .before .before .before .decode .ensures) (c .before .before .if1 .left)),
-  simp (eq-eqb _ _ (not-refused (c .before .before .before .before .decode .ensures) (c .before .before .if1 .left)), c .lpsys-numbers .ensures, read-head (c .before .before .before .before .decode .ensures) (c .before .before .if1 .left)),
-)
+returns-2 c =
+    let else1 : tie.Else1 = search in
+    let after-decode : tie.After-decode = search in (
+      sym (not-refused (after-decode .decode .ensures) (else1 .if1 .left)),
+      simp (eq-eqb _ _ (not-refused (after-decode .decode .ensures) (else1 .if1 .left)), c .lpsys-numbers .ensures, read-head (after-decode .decode .ensures) (else1 .if1 .left)),
+    )
 
 pub read-lpsys-spec : {M : Type 1} → statement M
 read-lpsys-spec = tie.close (tie.spec decode-requires returns lpsys-numbers-requires returns-2)

@@ -22,12 +22,15 @@ same-requires c κs = search needs
 
 returns-2 : tie.Need-returns-2
 returns-2 c =
-    let kept = c .before .before .before .before .before .keeps in (
+    let after-same : tie.After-same = search in
+    let else1 : tie.Else1 = search in
+    let after-keeps : tie.After-keeps = search in
+    let kept = after-keeps .keeps in (
       tt,
       λ e. record {
-        text-is = c .before .same .ensures .0 (c .if3 .taken);
+        text-is = after-same .same .ensures .0 (c .if3 .taken);
         whole = omega arith;
-        kept = kept .ensures (not-false (kept .result) (c .before .before .before .before .if1 .left));
+        kept = kept .ensures (not-false (kept .result) (else1 .if1 .left));
       },
     )
 

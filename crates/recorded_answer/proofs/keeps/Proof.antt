@@ -35,11 +35,15 @@ loop-less c = search needs
 
 loop-again : tie.Need-loop-again Inv-loop μ-loop
 loop-again c =
-    let l = c .before .before .before .loop in
-    keep-next (c .before .before .before .before .args .journal .now) _ (l .i) (l .inv) (omega arith)
+    let at-loop : tie.At-loop Inv-loop μ-loop = search in
+    let start : tie.Start Inv-loop μ-loop = search in
+    let l = at-loop .loop in
+    keep-next (start .args .journal .now) _ (l .i) (l .inv) (omega arith)
 
 returns-2 : tie.Need-returns-2 Inv-loop μ-loop
-returns-2 c = λ e j h k. c .before .loop .inv j h (omega arith)
+returns-2 c =
+    let at-loop : tie.At-loop Inv-loop μ-loop = search in
+    λ e j h k. at-loop .loop .inv j h (omega arith)
 
 pub keeps-spec : {M : Type 1} → statement M
 keeps-spec =

@@ -4,7 +4,7 @@ use mathlib.Core.List.{List, []}
 use lib.ListN.{length}
 use Rattle.call.proofs.Entries.{performed-within}
 use Rattle.booking.specs.Booking.{book}
-use Rattle.booking.specs.release.{release}
+use Rattle.booking.specs.Release.{release}
 use Rattle.recorded_call.specs.declared.tasks.Call.{Call}
 use Rattle.recorded_call.specs.declared.tasks.Call.the-variants.{Book, Release}
 use Rattle.recorded_call.specs.tasks.{resultOf}

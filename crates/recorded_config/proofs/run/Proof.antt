@@ -35,7 +35,10 @@ same-length-2 : tie.Need-same-length-2
 same-length-2 c = search needs
 
 returns : tie.Need-returns
-returns c = rw (c .before .before .before .before .before .before .before .enum-told .given .1) (c .before .before .before .before .calibrate-hrc48 .ensures, refl)
+returns c =
+    let after-calibrate-hrc48 : tie.After-calibrate-hrc48 = search in
+    let after-enum-told : tie.After-enum-told = search in
+    rw (after-enum-told .enum-told .given .1) (after-calibrate-hrc48 .calibrate-hrc48 .ensures, refl)
 
 same-length-3 : tie.Need-same-length-3
 same-length-3 c = search needs
@@ -44,7 +47,10 @@ same-length-4 : tie.Need-same-length-4
 same-length-4 c = search needs
 
 returns-2 : tie.Need-returns-2
-returns-2 c = rw (c .before .before .before .before .before .before .before .before .enum-told2 .given .1) (c .before .before .before .before .init .ensures)
+returns-2 c =
+    let after-init : tie.After-init = search in
+    let after-enum-told2 : tie.After-enum-told2 = search in
+    rw (after-enum-told2 .enum-told2 .given .1) (after-init .init .ensures)
 
 same-length-5 : tie.Need-same-length-5
 same-length-5 c = search needs
@@ -53,7 +59,10 @@ same-length-6 : tie.Need-same-length-6
 same-length-6 c = search needs
 
 returns-3 : tie.Need-returns-3
-returns-3 c = rw (c .before .before .before .before .before .before .before .before .enum-told3 .given .1) (c .before .before .before .before .reconfigure-sysclk .ensures)
+returns-3 c =
+    let after-reconfigure-sysclk : tie.After-reconfigure-sysclk = search in
+    let after-enum-told3 : tie.After-enum-told3 = search in
+    rw (after-enum-told3 .enum-told3 .given .1) (after-reconfigure-sysclk .reconfigure-sysclk .ensures)
 
 same-length-7 : tie.Need-same-length-7
 same-length-7 c = search needs
@@ -62,7 +71,10 @@ same-length-8 : tie.Need-same-length-8
 same-length-8 c = search needs
 
 returns-4 : tie.Need-returns-4
-returns-4 c = rw (c .before .before .before .before .before .before .before .enum-told4 .given .1) (c .before .before .before .before .change .ensures, refl)
+returns-4 c =
+    let after-change : tie.After-change = search in
+    let after-enum-told4 : tie.After-enum-told4 = search in
+    rw (after-enum-told4 .enum-told4 .given .1) (after-change .change .ensures, refl)
 
 pub run-spec : {M : Type 1} → statement M
 run-spec =

@@ -3,8 +3,6 @@ use Rattle.recorded_line.proofs.Four.{four-at}
 use borrow.Author.Needs.{needs}
 use Rattle.recorded_line.proofs.four_at.Statement.{statement}
 use Rattle.recorded_line.proofs.four_at.Tie as tie
-use Rattle.recorded_line.proofs.byte_at.Reads as byte-at-reads
-use Rattle.record.proofs.four.four_bytes.Reads as four-bytes-reads
 
 byte-at-requires : tie.Need-byte-at-requires
 byte-at-requires c κs = search needs
@@ -32,7 +30,12 @@ four-bytes-requires c κs = search needs
 
 returns : tie.Need-returns
 returns c =
-    rw (c .four-bytes .ensures) (four-at (c .before .before .before .before .before .before .args .bytes .now) (c .before .before .before .before .before .before .args .at) _ _ _ _ (c .before .before .before .before .byte-at .ensures) (c .before .before .before .byte-at2 .ensures) (c .before .before .byte-at3 .ensures) (c .before .byte-at4 .ensures))
+    let byte4 : tie.After-byte-at4 = search in
+    let byte3 : tie.After-byte-at3 = search in
+    let byte2 : tie.After-byte-at2 = search in
+    let byte : tie.After-byte-at = search in
+    let start : tie.Start = search in
+    rw (c .four-bytes .ensures) (four-at (start .args .bytes .now) (start .args .at) _ _ _ _ (byte .byte-at .ensures) (byte2 .byte-at2 .ensures) (byte3 .byte-at3 .ensures) (byte4 .byte-at4 .ensures))
 
 pub four-at-spec : {M : Type 1} → statement M
 four-at-spec =

@@ -5,7 +5,7 @@ use mathlib.Core.Bool.{Bool, true, false, cond}
 use mathlib.Core.List.{List, _∷_, _++_}
 use lib.Dec.{eqb}
 use lib.ListN.{length, replicate}
-use Rattle.head.specs.from_bytes.Record.{headRefusal, headOf}
+use Rattle.head.specs.Record.{headRefusal, headOf}
 use Rattle.readings.specs.Clocks.{clocksOf, lpsysOf, unlessRefused}
 use Rattle.text.specs.Text.{Puts}
 use Rattle.text.specs.Decimal.{decimalOf}

@@ -10,7 +10,9 @@ pack-requires : tie.Need-pack-requires
 pack-requires c κs = search needs
 
 returns : tie.Need-returns
-returns c = (simp (c .pack .ensures, c .before .read-clocks .ensures .0), c .before .read-clocks .ensures .1)
+returns c =
+    let after-read-clocks : tie.After-read-clocks = search in
+    (simp (c .pack .ensures, after-read-clocks .read-clocks .ensures .0), after-read-clocks .read-clocks .ensures .1)
 
 pub rikkovan-read-clocks-spec : {M : Type 1} → statement M
 rikkovan-read-clocks-spec = tie.close (tie.spec read-clocks-requires pack-requires returns)

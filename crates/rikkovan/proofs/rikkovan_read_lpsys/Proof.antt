@@ -10,7 +10,9 @@ pack-requires : tie.Need-pack-requires
 pack-requires c κs = search needs
 
 returns : tie.Need-returns
-returns c = (simp (c .pack .ensures, c .before .read-lpsys .ensures .0), c .before .read-lpsys .ensures .1)
+returns c =
+    let after-read-lpsys : tie.After-read-lpsys = search in
+    (simp (c .pack .ensures, after-read-lpsys .read-lpsys .ensures .0), after-read-lpsys .read-lpsys .ensures .1)
 
 pub rikkovan-read-lpsys-spec : {M : Type 1} → statement M
 rikkovan-read-lpsys-spec = tie.close (tie.spec read-lpsys-requires pack-requires returns)

@@ -12,8 +12,8 @@ use Rattle.record.proofs.Laid.{laid-sets, laid-next}
 use Rattle.layout.specs.Layout.{cyclesAt, periodAt, taskSize}
 use Rattle.task.specs.declared.Task.{Task}
 use Rattle.task.specs.Task.{InBytes}
-use Rattle.record.specs.four.{fourBytes, fourIn}
-use Rattle.record.proofs.four.Laws.{four-of-bytes, bytes-of-four, four-same, four-in-32}
+use Rattle.record.specs.Four.{fourBytes, fourIn}
+use Rattle.record.proofs.Four.{four-of-bytes, bytes-of-four, four-same, four-in-32}
 use Rattle.task.specs.bytes.{taskIn, taskBytes}
 
 -- as many bytes as a task has in a record

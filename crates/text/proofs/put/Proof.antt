@@ -44,8 +44,10 @@ loop-less c = omega arith
 
 loop-again : tie.Need-loop-again Inv-loop μ-loop
 loop-again c =
-    let l = c .before .before .loop in
-    let args = c .before .before .before .before .args in
+    let at-loop : tie.At-loop Inv-loop μ-loop = search in
+    let start : tie.Start Inv-loop μ-loop = search in
+    let l = at-loop .loop in
+    let args = start .args in
     (simp length-set (omega arith), (omega arith, (omega arith, put-byte (args .bytes .now) (args .text .now) (l .text) (args .at) (l .i) (omega arith) (omega arith) (l .inv .1 .1 .1))))
 
 add-result : tie.Need-add-result Inv-loop μ-loop
@@ -56,8 +58,10 @@ same-length c = omega arith
 
 returns-2 : tie.Need-returns-2 Inv-loop μ-loop
 returns-2 c =
-    let l = c .before .loop in
-    let all = take-all (l .i) (c .before .before .before .args .bytes .now) (omega arith) in
+    let at-loop : tie.At-loop Inv-loop μ-loop = search in
+    let start : tie.Start Inv-loop μ-loop = search in
+    let l = at-loop .loop in
+    let all = take-all (l .i) (start .args .bytes .now) (omega arith) in
     record { from = omega arith; within = omega arith; put = λ h. rw all at (l .inv .1 .1 .1) }
 
 pub put-spec : {M : Type 1} → statement M

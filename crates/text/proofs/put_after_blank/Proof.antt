@@ -18,7 +18,10 @@ same-length : tie.Need-same-length
 same-length c = search needs
 
 returns : tie.Need-returns
-returns c = puts-then (c .before .before .before .before .before .before .put .ensures) (c .before .before .put-number .ensures) (omega arith)
+returns c =
+    let after-put-number : tie.After-put-number = search in
+    let after-put : tie.After-put = search in
+    puts-then (after-put .put .ensures) (after-put-number .put-number .ensures) (omega arith)
 
 pub put-after-blank-spec : {M : Type 1} → statement M
 put-after-blank-spec =

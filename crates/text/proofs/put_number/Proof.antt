@@ -23,9 +23,12 @@ same-length c = search needs
 
 returns : tie.Need-returns
 returns c =
-    let digits = c .before .before .before .before .before .decimal in
-    let number = c .before .before .before .before .before .before .before .before .args .number in
-    rw (digits .ensures .1 .1 ∙ decimal-is number (digits .result) (omega arith) (digits .ensures .1 .0)) at (c .before .before .put .ensures)
+    let after-put : tie.After-put = search in
+    let after-decimal : tie.After-decimal = search in
+    let start : tie.Start = search in
+    let digits = after-decimal .decimal in
+    let number = start .args .number in
+    rw (digits .ensures .1 .1 ∙ decimal-is number (digits .result) (omega arith) (digits .ensures .1 .0)) at (after-put .put .ensures)
 
 pub put-number-spec : {M : Type 1} → statement M
 put-number-spec =

@@ -13,22 +13,32 @@ use Rattle.plan.specs.Plan.{legal}
 use Rattle.plan.specs.bytes.{planOf, recordRefusal, decoded}
 use Rattle.plan.proofs.bytes.RoundTrip.{read-is, read-legal}
 use Rattle.plan_clocks.specs.Clocks.{usbDivider, targetOf}
+use Rattle.verdict.specs.declared.Verdict.{Verdict}
+use Rattle.verdict.specs.declared.Verdict.the-variants.{Accepted, Refused}
+use Rattle.verdict.specs.declared.planned.Planned.{Planned}
 use Rattle.verdict.specs.tests.{planRefusal}
-use Rattle.verdict.specs.Verdict.{judged, verdict, numberOf}
+use Rattle.verdict.specs.Verdict.{verdictOf, judged, verdict, numberOf}
+use Rattle.verdict.specs.planned.{unplanned, plannedBy, planned}
 use Rattle.verdict.proofs.Passed.{number-is}
 use Rattle.verdict.proofs.Usb.{usb-divider-range}
-use Rattle.verdict.specs.declared.planned.Planned.{Planned}
-use Rattle.verdict.specs.planned.{Plans}
 
--- the number of bytes that are no record
-pub number-unread : (pb : List ℕ) (n : ℕ) → decoded pb ≡ Unread n → n ≡ numberOf (verdict pb)
+-- bytes that are no record, and bytes that are one
+pub verdict-unread : (pb : List ℕ) (n : ℕ) → decoded pb ≡ Unread n → verdict pb ≡ Refused n
 unfolding verdict
-number-unread pb n e = rw e refl
+verdict-unread pb n e = ap judged e
 
--- and of those that are one
-pub number-read : (pb : List ℕ) (p : Plan) → decoded pb ≡ Read p → planRefusal p ≡ numberOf (verdict pb)
+pub verdict-read : (pb : List ℕ) (p : Plan) → decoded pb ≡ Read p → verdict pb ≡ verdictOf p
 unfolding verdict
-number-read pb p e = rw e (sym (number-is p))
+verdict-read pb p e = ap judged e
+
+-- what is given of them
+pub planned-unread : (pb : List ℕ) (n : ℕ) → decoded pb ≡ Unread n → unplanned n ≡ planned pb
+unfolding planned
+planned-unread pb n e = rw (verdict-unread pb n e) refl
+
+pub planned-read : (pb : List ℕ) (p : Plan) → decoded pb ≡ Read p → plannedBy p (verdictOf p) ≡ planned pb
+unfolding planned
+planned-read pb p e = rw (read-is pb p e .1, verdict-read pb p e) refl
 
 -- a refusal is never 0
 unread-number : (pb : List ℕ) (n : ℕ) → decoded pb ≡ Unread n → n ≡ 0 → ⊥
@@ -67,26 +77,32 @@ usb-most p e = by (p .usb) refl
     by true on = let most = usb-divider-range p e on .1 in omega (arith, most)
     by false off = rw off (omega arith)
 
--- a plan that is refused
-pub plans-refused : (pb : List ℕ) (r : Planned) → (r .refusal ≡ 0 → ⊥) → r .refusal ≡ numberOf (verdict pb) → Plans pb r
-plans-refused pb r never number =
-    record {
-      refusal-is = number;
-      plan-is = λ z. absurd (never z);
-      legal-is = λ z. absurd (never z);
-      target-is = λ z. absurd (never z);
-      usb-is = λ z. absurd (never z);
-    }
+-- the plan's refusal 1 to 14, and where there is none the plan and what it gives
+pub record Plans (pb : List ℕ) (r : Planned) : Type 0 where
+  pub refusal-is : r .refusal ≡ numberOf (verdict pb)
+  pub plan-is : r .refusal ≡ 0 → r .plan ≡ planOf pb
+  pub legal-is : r .refusal ≡ 0 → legal (r .plan) ≡ true
+  pub target-is : r .refusal ≡ 0 → r .target ≡ targetOf (r .plan)
+  pub usb-is : r .refusal ≡ 0 → r .target .«usb_div» ≤ 7
 
--- and one that is accepted
-pub plans-accepted : (pb : List ℕ) (r : Planned) → r .refusal ≡ numberOf (verdict pb) → numberOf (verdict pb) ≡ 0 →
-    r .plan ≡ planOf pb → r .target ≡ targetOf (r .plan) → Plans pb r
-plans-accepted pb r number zero plan target =
-    let t = taken pb zero in
+refusal-by : (p : Plan) (v : Verdict) → plannedBy p v .refusal ≡ numberOf v
+unfolding unplanned
+refusal-by p (Accepted t) = refl
+refusal-by p (Refused n) = refl
+
+accepted : (pb : List ℕ) → Taken pb → planned pb ≡ record { refusal = 0; plan = planOf pb; target = targetOf (planOf pb) }
+unfolding planned decoded verdictOf
+accepted pb t = rw (verdict-read pb (planOf pb) (rw (t .record-is) refl), t .tests-are) refl
+
+pub plans : (pb : List ℕ) (r : Planned) → r ≡ planned pb → Plans pb r
+unfolding planned
+plans pb r e =
+    let number = ap (λ (q : Planned). q .refusal) e ∙ refusal-by (planOf pb) (verdict pb) in
+    let is : r .refusal ≡ 0 → r ≡ record { refusal = 0; plan = planOf pb; target = targetOf (planOf pb) } = λ z. e ∙ accepted pb (taken pb (sym number ∙ z)) in
     record {
       refusal-is = number;
-      plan-is = λ z. plan;
-      legal-is = λ z. ap legal plan ∙ t .legal-is;
-      target-is = λ z. target;
-      usb-is = λ z. rw (target, plan) (usb-most (planOf pb) (t .tests-are));
+      plan-is = λ z. ap (λ (q : Planned). q .plan) (is z);
+      legal-is = λ z. ap (λ (q : Planned). legal (q .plan)) (is z) ∙ taken pb (sym number ∙ z) .legal-is;
+      target-is = λ z. rw (is z) refl;
+      usb-is = λ z. rw (is z) (usb-most (planOf pb) (taken pb (sym number ∙ z) .tests-are));
     }

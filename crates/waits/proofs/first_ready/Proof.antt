@@ -27,7 +27,9 @@ shared-slice-read-if1 : tie.Need-shared-slice-read-if1 Inv-loop μ-loop
 shared-slice-read-if1 c = search needs
 
 returns : tie.Need-returns Inv-loop μ-loop
-returns c = c .before .before .before .loop .inv .1 (c .before .before .before .loop .i) (found-here _ (c .before .before .before .loop .i) (search needs) (c .if1 .taken))
+returns c =
+    let at-loop : tie.At-loop Inv-loop μ-loop = search in
+    at-loop .loop .inv .1 (at-loop .loop .i) (found-here _ (at-loop .loop .i) (search needs) (c .if1 .taken))
 
 add-i : tie.Need-add-i Inv-loop μ-loop
 add-i c = search needs
@@ -36,10 +38,14 @@ loop-less : tie.Need-loop-less Inv-loop μ-loop
 loop-less c = search needs
 
 loop-again : tie.Need-loop-again Inv-loop μ-loop
-loop-again c = (search needs, λ r f. c .before .before .before .loop .inv .1 r (found-step _ (c .before .before .before .loop .i) r (search needs) (c .if1 .left) f))
+loop-again c =
+    let at-loop : tie.At-loop Inv-loop μ-loop = search in
+    (search needs, λ r f. at-loop .loop .inv .1 r (found-step _ (at-loop .loop .i) r (search needs) (c .if1 .left) f))
 
 returns-2 : tie.Need-returns-2 Inv-loop μ-loop
-returns-2 c = c .before .loop .inv .1 (c .before .loop .i) (found-end _ (c .before .loop .i) (omega arith))
+returns-2 c =
+    let at-loop : tie.At-loop Inv-loop μ-loop = search in
+    at-loop .loop .inv .1 (at-loop .loop .i) (found-end _ (at-loop .loop .i) (omega arith))
 
 pub first-ready-spec : {M : Type 1} → statement M
 first-ready-spec =

@@ -15,7 +15,10 @@ numbers-requires : tie.Need-numbers-requires
 numbers-requires c κs = search needs
 
 returns-2 : tie.Need-returns-2
-returns-2 c = rw (eq-eqb _ _ (c .before .before .before .if1 .left)) (c .numbers .ensures ∙ c .before .read-hpsys-clocks-from-hw .ensures)
+returns-2 c =
+    let after-read-hpsys-clocks-from-hw : tie.After-read-hpsys-clocks-from-hw = search in
+    let else1 : tie.Else1 = search in
+    rw (eq-eqb _ _ (else1 .if1 .left)) (c .numbers .ensures ∙ after-read-hpsys-clocks-from-hw .read-hpsys-clocks-from-hw .ensures)
 
 pub clocks-after-spec : {M : Type 1} → statement M
 clocks-after-spec =

@@ -1,9 +1,8 @@
 -- `call::clocks::clocks_beside` meets its contract: the test picks the case, and the audio pair is set. Assumes nothing.
 use native.Mathlib.Omega.{arith}
 use mathlib.Core.Path.{_≡_, refl, _∙_}
-use mathlib.Core.List.{_++_}
 use borrow.Author.Tests.{eq-eqb, ne-eqb}
-use lib.ListN.{length, take}
+use lib.ListN.{length}
 use Rattle.readings.specs.Clocks.{clocksOf}
 use Rattle.call.proofs.clocks.Pair.{pair}
 use borrow.Author.Needs.{needs}
@@ -33,7 +32,15 @@ array-write-clocks-2 c = search needs
 
 returns-2 : tie.Need-returns-2
 unfolding clocksOf
-returns-2 c = let long : length (c .before .before .before .before .args .t2) ≡ 15 = omega arith in rw (eq-eqb _ _ (c .before .before .before .if1 .left), c .numbers .ensures ∙ c .before .read-hpsys-clocks-from-hw .ensures, pair (c .before .before .before .before .args .t2) long) refl
+returns-2 c =
+    let after-read-hpsys-clocks-from-hw : tie.After-read-hpsys-clocks-from-hw = search in
+    let else1 : tie.Else1 = search in
+    let start : tie.Start = search in
+    let long : length (start .args .t2) ≡ 15 = omega arith in rw (
+      eq-eqb _ _ (else1 .if1 .left),
+      c .numbers .ensures ∙ after-read-hpsys-clocks-from-hw .read-hpsys-clocks-from-hw .ensures,
+      pair (start .args .t2) long,
+    ) refl
 
 pub clocks-beside-spec : {M : Type 1} → statement M
 clocks-beside-spec =

@@ -26,15 +26,18 @@ same-length-2 c = search needs
 
 returns : tie.Need-returns
 returns c =
-    let args = c .before .before .before .before .before .before .before .before .before .before .before .before .before .before .before .args in
+    let after-book : tie.After-book = search in
+    let after-change : tie.After-change = search in
+    let start : tie.Start = search in
+    let args = start .args in
     let t : Task = record { id = args .id; cycles = args .cycles; period = args .period } in
     let small : InBytes t = record { id = omega arith; cycles = omega arith; period = omega arith } in
     let b = args .buffer .now in
     let pb = args .plan .now in
     let j = args .journal .now in
     let a = args .answers .now in
-    let changed = change-performs b _ _ _ pb j a (c .before .before .before .before .before .before .before .before .change .ensures) in
-    let booked = book-performs _ _ _ [] t (c .before .before .book .ensures) in
+    let changed = change-performs b _ _ _ pb j a (after-change .change .ensures) in
+    let booked = book-performs _ _ _ [] t (after-book .book .ensures) in
     record {
       first = changed .refusal;
       second = booked .refusal ∙ ap (λ (x : List ℕ). perform (booking t) x .refusal) (changed .buffer);

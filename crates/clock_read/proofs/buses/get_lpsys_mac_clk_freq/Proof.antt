@@ -21,7 +21,10 @@ divide-requires c κs = search needs
 
 returns : tie.Need-returns
 unfolding lpsysMacOf
-returns c = simp (c .divide .ensures, c .before .get-lpsys-hclk-freq .ensures, c .before .before .b .ensures)
+returns c =
+    let after-get-lpsys-hclk-freq : tie.After-get-lpsys-hclk-freq = search in
+    let after-b : tie.After-b = search in
+    simp (c .divide .ensures, after-get-lpsys-hclk-freq .get-lpsys-hclk-freq .ensures, after-b .b .ensures)
 
 pub get-lpsys-mac-clk-freq-spec : {M : Type 1} → statement M
 get-lpsys-mac-clk-freq-spec =

@@ -21,7 +21,10 @@ prescale-requires c κs = search needs
 
 returns : tie.Need-returns
 unfolding lpsysPclk1Of
-returns c = simp (c .prescale .ensures, c .before .get-lpsys-hclk-freq .ensures, c .before .before .b .ensures)
+returns c =
+    let after-get-lpsys-hclk-freq : tie.After-get-lpsys-hclk-freq = search in
+    let after-b : tie.After-b = search in
+    simp (c .prescale .ensures, after-get-lpsys-hclk-freq .get-lpsys-hclk-freq .ensures, after-b .b .ensures)
 
 pub get-lpsys-pclk1-freq-spec : {M : Type 1} → statement M
 get-lpsys-pclk1-freq-spec =

@@ -21,7 +21,10 @@ prescale-requires c κs = search needs
 
 returns : tie.Need-returns
 unfolding lpsysPclk2Of
-returns c = simp (c .prescale .ensures, c .before .get-lpsys-hclk-freq .ensures, c .before .before .c .ensures)
+returns c =
+    let after-get-lpsys-hclk-freq : tie.After-get-lpsys-hclk-freq = search in
+    let after-c : tie.After-c = search in
+    simp (c .prescale .ensures, after-get-lpsys-hclk-freq .get-lpsys-hclk-freq .ensures, after-c .c .ensures)
 
 pub get-lpsys-pclk2-freq-spec : {M : Type 1} → statement M
 get-lpsys-pclk2-freq-spec =

@@ -21,7 +21,10 @@ prescale-requires c κs = search needs
 
 returns : tie.Need-returns
 unfolding pclk2Of
-returns c = simp (c .prescale .ensures, c .before .get-hclk-freq .ensures, c .before .before .c .ensures)
+returns c =
+    let after-get-hclk-freq : tie.After-get-hclk-freq = search in
+    let after-c : tie.After-c = search in
+    simp (c .prescale .ensures, after-get-hclk-freq .get-hclk-freq .ensures, after-c .c .ensures)
 
 pub get-pclk2-freq-spec : {M : Type 1} → statement M
 get-pclk2-freq-spec =

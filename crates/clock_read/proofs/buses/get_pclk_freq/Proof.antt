@@ -21,7 +21,10 @@ prescale-requires c κs = search needs
 
 returns : tie.Need-returns
 unfolding pclkOf
-returns c = simp (c .prescale .ensures, c .before .get-hclk-freq .ensures, c .before .before .b .ensures)
+returns c =
+    let after-get-hclk-freq : tie.After-get-hclk-freq = search in
+    let after-b : tie.After-b = search in
+    simp (c .prescale .ensures, after-get-hclk-freq .get-hclk-freq .ensures, after-b .b .ensures)
 
 pub get-pclk-freq-spec : {M : Type 1} → statement M
 get-pclk-freq-spec =

@@ -17,7 +17,9 @@ prescale-requires : tie.Need-prescale-requires
 prescale-requires c κs = search needs
 
 returns-2 : tie.Need-returns-2
-returns-2 c = simp (c .before .before .f .given .1, hertz-is (c .prescale .ensures))
+returns-2 c =
+    let after-f : tie.After-f = search in
+    simp (after-f .f .given .1, hertz-is (c .prescale .ensures))
 
 pub prescale-spec : {M : Type 1} → statement M
 prescale-spec = tie.close (tie.spec enum-known-f enum-told returns prescale-requires returns-2)

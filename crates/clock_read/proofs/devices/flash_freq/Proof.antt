@@ -10,18 +10,25 @@ get-clk-dll1-freq-requires c κs = search needs
 
 returns : tie.Need-returns
 unfolding flashOf
-returns c = simp (eq-eqb _ _ (c .before .if1 .taken), c .get-clk-dll1-freq .ensures)
+returns c =
+    let then1 : tie.Then1 = search in
+    simp (eq-eqb _ _ (then1 .if1 .taken), c .get-clk-dll1-freq .ensures)
 
 get-clk-dll2-freq-requires : tie.Need-get-clk-dll2-freq-requires
 get-clk-dll2-freq-requires c κs = search needs
 
 returns-2 : tie.Need-returns-2
 unfolding flashOf
-returns-2 c = simp (ne-eqb _ _ (c .before .before .if1 .left), eq-eqb _ _ (c .before .if2 .taken), c .get-clk-dll2-freq .ensures)
+returns-2 c =
+    let then2 : tie.Then2 = search in
+    let else1 : tie.Else1 = search in
+    simp (ne-eqb _ _ (else1 .if1 .left), eq-eqb _ _ (then2 .if2 .taken), c .get-clk-dll2-freq .ensures)
 
 returns-3 : tie.Need-returns-3
 unfolding flashOf
-returns-3 c = simp (ne-eqb _ _ (c .before .if1 .left), ne-eqb _ _ (c .if2 .left))
+returns-3 c =
+    let else1 : tie.Else1 = search in
+    simp (ne-eqb _ _ (else1 .if1 .left), ne-eqb _ _ (c .if2 .left))
 
 pub flash-freq-spec : {M : Type 1} → statement M
 flash-freq-spec =

@@ -8,7 +8,9 @@ element-copy-out-dll-freq : tie.Need-element-copy-out-dll-freq
 element-copy-out-dll-freq c = search needs
 
 dll-freq-requires : tie.Need-dll-freq-requires
-dll-freq-requires c κs = dll1-stage (c .before .args .t1) (c .before .pre)
+dll-freq-requires c κs =
+    let start : tie.Start = search in
+    dll1-stage (start .args .t1) (start .pre)
 
 returns : tie.Need-returns
 returns c = search needs

@@ -13,7 +13,9 @@ flash-freq-requires : tie.Need-flash-freq-requires
 flash-freq-requires c κs = search needs
 
 returns : tie.Need-returns
-returns c = simp (c .flash-freq .ensures, c .before .b .ensures)
+returns c =
+    let after-b : tie.After-b = search in
+    simp (c .flash-freq .ensures, after-b .b .ensures)
 
 pub get-clk-mpi1-freq-spec : {M : Type 1} → statement M
 get-clk-mpi1-freq-spec =

@@ -13,7 +13,9 @@ flash-freq-requires : tie.Need-flash-freq-requires
 flash-freq-requires c κs = search needs
 
 returns : tie.Need-returns
-returns c = simp (c .flash-freq .ensures, c .before .c .ensures)
+returns c =
+    let after-c : tie.After-c = search in
+    simp (c .flash-freq .ensures, after-c .c .ensures)
 
 pub get-clk-mpi2-freq-spec : {M : Type 1} → statement M
 get-clk-mpi2-freq-spec =

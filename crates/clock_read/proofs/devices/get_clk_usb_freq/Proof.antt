@@ -21,7 +21,10 @@ divide-requires c κs = search needs
 
 returns : tie.Need-returns
 unfolding usbOf
-returns c = simp (c .divide .ensures, c .before .usb-source .ensures, c .before .before .c .ensures)
+returns c =
+    let after-usb-source : tie.After-usb-source = search in
+    let after-c : tie.After-c = search in
+    simp (c .divide .ensures, after-usb-source .usb-source .ensures, after-c .c .ensures)
 
 pub get-clk-usb-freq-spec : {M : Type 1} → statement M
 get-clk-usb-freq-spec =

@@ -13,14 +13,18 @@ get-clk-dll2-freq-requires c κs = search needs
 
 returns : tie.Need-returns
 unfolding usbSource
-returns c = simp (eq-eqb _ _ (c .before .if1 .taken), c .get-clk-dll2-freq .ensures)
+returns c =
+    let then1 : tie.Then1 = search in
+    simp (eq-eqb _ _ (then1 .if1 .taken), c .get-clk-dll2-freq .ensures)
 
 get-clk-sys-freq-requires : tie.Need-get-clk-sys-freq-requires
 get-clk-sys-freq-requires c κs = search needs
 
 returns-2 : tie.Need-returns-2
 unfolding usbSource
-returns-2 c = simp (ne-eqb _ _ (c .before .if1 .left), c .get-clk-sys-freq .ensures)
+returns-2 c =
+    let else1 : tie.Else1 = search in
+    simp (ne-eqb _ _ (else1 .if1 .left), c .get-clk-sys-freq .ensures)
 
 pub usb-source-spec : {M : Type 1} → statement M
 usb-source-spec =

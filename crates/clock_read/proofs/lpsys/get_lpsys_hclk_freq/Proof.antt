@@ -15,7 +15,10 @@ divide-requires c κs = search needs
 
 returns : tie.Need-returns
 unfolding lpsysHclkOf
-returns c = simp (c .divide .ensures, c .before .before .get-lpsys-sysclk-freq .ensures, c .before .get-lpsys-hclk-div .ensures)
+returns c =
+    let after-get-lpsys-hclk-div : tie.After-get-lpsys-hclk-div = search in
+    let after-get-lpsys-sysclk-freq : tie.After-get-lpsys-sysclk-freq = search in
+    simp (c .divide .ensures, after-get-lpsys-sysclk-freq .get-lpsys-sysclk-freq .ensures, after-get-lpsys-hclk-div .get-lpsys-hclk-div .ensures)
 
 pub get-lpsys-hclk-freq-spec : {M : Type 1} → statement M
 get-lpsys-hclk-freq-spec =

@@ -24,7 +24,13 @@ glyph-requires-6 c κs = search needs
 
 returns : tie.Need-returns
 unfolding hexDigits
-returns c = simp (c .glyph6 .ensures, c .before .glyph5 .ensures, c .before .before .glyph4 .ensures, c .before .before .before .glyph3 .ensures, c .before .before .before .before .glyph2 .ensures, c .before .before .before .before .before .glyph .ensures)
+returns c =
+    let after-glyph5 : tie.After-glyph5 = search in
+    let after-glyph4 : tie.After-glyph4 = search in
+    let after-glyph3 : tie.After-glyph3 = search in
+    let after-glyph2 : tie.After-glyph2 = search in
+    let after-glyph : tie.After-glyph = search in
+    simp (c .glyph6 .ensures, after-glyph5 .glyph5 .ensures, after-glyph4 .glyph4 .ensures, after-glyph3 .glyph3 .ensures, after-glyph2 .glyph2 .ensures, after-glyph .glyph .ensures)
 
 pub six-digits-spec : {M : Type 1} → statement M
 six-digits-spec =

@@ -11,7 +11,9 @@ add-result : tie.Need-add-result
 add-result c = search needs
 
 returns : tie.Need-returns
-returns c = let d = c .before .args .digit in simp (lt-ltb d 10 (search needs))
+returns c =
+    let start : tie.Start = search in
+    let d = start .args .digit in simp (lt-ltb d 10 (search needs))
 
 cast-result-2 : tie.Need-cast-result-2
 cast-result-2 c = search needs
@@ -23,7 +25,9 @@ add-result-2 : tie.Need-add-result-2
 add-result-2 c = search needs
 
 returns-2 : tie.Need-returns-2
-returns-2 c = let d = c .before .args .digit in simp (le-ltb d 10 (search needs))
+returns-2 c =
+    let start : tie.Start = search in
+    let d = start .args .digit in simp (le-ltb d 10 (search needs))
 
 pub glyph-spec : {M : Type 1} → statement M
 glyph-spec =

@@ -30,12 +30,17 @@ is-digit-requires c κs = search needs
 
 returns : tie.Need-returns Inv-loop μ-loop
 returns c =
-    let l = c .before .before .before .before .loop in
-    let other = sym (c .before .is-digit .ensures) ∙ not-true (c .before .is-digit .result) (c .if1 .taken) in
-    read-other (c .before .before .before .before .before .before .args .text .now) (l .i) (l .number) (search needs) other ∙ l .inv .1 .1
+    let after-is-digit : tie.After-is-digit Inv-loop μ-loop = search in
+    let at-loop : tie.At-loop Inv-loop μ-loop = search in
+    let start : tie.Start Inv-loop μ-loop = search in
+    let l = at-loop .loop in
+    let other = sym (after-is-digit .is-digit .ensures) ∙ not-true (after-is-digit .is-digit .result) (c .if1 .taken) in
+    read-other (start .args .text .now) (l .i) (l .number) (search needs) other ∙ l .inv .1 .1
 
 with-digit-requires : tie.Need-with-digit-requires Inv-loop μ-loop
-with-digit-requires c κs = sym (c .before .is-digit .ensures) ∙ not-false (c .before .is-digit .result) (c .if1 .left)
+with-digit-requires c κs =
+    let after-is-digit : tie.After-is-digit Inv-loop μ-loop = search in
+    sym (after-is-digit .is-digit .ensures) ∙ not-false (after-is-digit .is-digit .result) (c .if1 .left)
 
 add-i : tie.Need-add-i Inv-loop μ-loop
 add-i c = search needs
@@ -45,13 +50,20 @@ loop-less c = search needs
 
 loop-again : tie.Need-loop-again Inv-loop μ-loop
 loop-again c =
-    let l = c .before .before .before .before .before .loop in
-    let digit = sym (c .before .before .is-digit .ensures) ∙ not-false (c .before .before .is-digit .result) (c .before .if1 .left) in
-    let step = read-step (c .before .before .before .before .before .before .before .args .text .now) (l .i) (l .number) (search needs) digit in
+    let else1 : tie.Else1 Inv-loop μ-loop = search in
+    let after-is-digit : tie.After-is-digit Inv-loop μ-loop = search in
+    let at-loop : tie.At-loop Inv-loop μ-loop = search in
+    let start : tie.Start Inv-loop μ-loop = search in
+    let l = at-loop .loop in
+    let digit = sym (after-is-digit .is-digit .ensures) ∙ not-false (after-is-digit .is-digit .result) (else1 .if1 .left) in
+    let step = read-step (start .args .text .now) (l .i) (l .number) (search needs) digit in
     (search needs, (omega (arith, c .with-digit .ensures), rw (c .with-digit .ensures) (step ∙ l .inv .1 .1)))
 
 returns-2 : tie.Need-returns-2 Inv-loop μ-loop
-returns-2 c = read-end (c .before .before .before .args .text .now) (c .before .loop .i) (c .before .loop .number) (search needs) (search needs) ∙ c .before .loop .inv .1 .1
+returns-2 c =
+    let at-loop : tie.At-loop Inv-loop μ-loop = search in
+    let start : tie.Start Inv-loop μ-loop = search in
+    read-end (start .args .text .now) (at-loop .loop .i) (at-loop .loop .number) (search needs) (search needs) ∙ at-loop .loop .inv .1 .1
 
 pub decimal-spec : {M : Type 1} → statement M
 decimal-spec =

@@ -2,7 +2,7 @@
 use mathlib.Core.Path.{refl}
 use native.Mathlib.Omega.{arith}
 use Rattle.clock_read.specs.Hpsys.{reg}
-use Rattle.dll.proofs.words.Fits.{dll-fits, dll-codes}
+use Rattle.dll.proofs.Fits.{dll-fits, dll-codes}
 use borrow.Author.Needs.{needs}
 use Rattle.dll.proofs.words.off_word.Statement.{statement}
 use Rattle.dll.proofs.words.off_word.Tie as tie

@@ -1,7 +1,7 @@
 -- `dll::words::on_word` meets its contract: the flag picks the byte of half. Assumes nothing.
 use native.Mathlib.Omega.{arith}
 use mathlib.Core.Path.{refl}
-use Rattle.dll.proofs.words.Fits.{dll-fits}
+use Rattle.dll.proofs.Fits.{dll-fits}
 use borrow.Author.Needs.{needs}
 use Rattle.dll.proofs.words.on_word.Statement.{statement}
 use Rattle.dll.proofs.words.on_word.Tie as tie

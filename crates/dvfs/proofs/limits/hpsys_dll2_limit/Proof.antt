@@ -14,7 +14,9 @@ array-read-t7 : tie.Need-array-read-t7
 array-read-t7 c = search needs
 
 returns : tie.Need-returns
-returns c = simp (c .number .ensures .0) (dll2-limit-at (c .before .args .mode))
+returns c =
+    let start : tie.Start = search in
+    simp (c .number .ensures .0) (dll2-limit-at (start .args .mode))
 
 pub hpsys-dll2-limit-spec : {M : Type 1} → statement M
 hpsys-dll2-limit-spec = tie.close (tie.spec number-requires mul-t4 array-read-t7 returns)

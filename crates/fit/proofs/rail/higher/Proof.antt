@@ -13,7 +13,10 @@ limit-requires c κs = search needs
 
 returns : tie.Need-returns
 unfolding higher
-returns c = rw (sym (c .before .before .meets .ensures) ∙ c .before .if1 .taken) (c .limit .ensures)
+returns c =
+    let then1 : tie.Then1 = search in
+    let after-meets : tie.After-meets = search in
+    rw (sym (after-meets .meets .ensures) ∙ then1 .if1 .taken) (c .limit .ensures)
 
 meets-requires-2 : tie.Need-meets-requires-2
 meets-requires-2 c κs = search needs
@@ -23,11 +26,20 @@ limit-requires-2 c κs = search needs
 
 returns-2 : tie.Need-returns-2
 unfolding higher
-returns-2 c = rw (sym (c .before .before .before .before .meets .ensures) ∙ c .before .before .before .if1 .left, sym (c .before .before .meets2 .ensures) ∙ c .before .if2 .taken) (c .limit2 .ensures)
+returns-2 c =
+    let then2 : tie.Then2 = search in
+    let after-meets2 : tie.After-meets2 = search in
+    let else1 : tie.Else1 = search in
+    let after-meets : tie.After-meets = search in
+    rw (sym (after-meets .meets .ensures) ∙ else1 .if1 .left, sym (after-meets2 .meets2 .ensures) ∙ then2 .if2 .taken) (c .limit2 .ensures)
 
 returns-3 : tie.Need-returns-3
 unfolding higher
-returns-3 c = rw (sym (c .before .before .before .meets .ensures) ∙ c .before .before .if1 .left, sym (c .before .meets2 .ensures) ∙ c .if2 .left)
+returns-3 c =
+    let after-meets2 : tie.After-meets2 = search in
+    let else1 : tie.Else1 = search in
+    let after-meets : tie.After-meets = search in
+    rw (sym (after-meets .meets .ensures) ∙ else1 .if1 .left, sym (after-meets2 .meets2 .ensures) ∙ c .if2 .left)
 
 pub higher-spec : {M : Type 1} → statement M
 higher-spec =

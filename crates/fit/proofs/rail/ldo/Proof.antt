@@ -37,16 +37,28 @@ cast-result-2 : tie.Need-cast-result-2
 cast-result-2 c = search needs
 
 returns : tie.Need-returns
-returns c = c .vref .ensures ∙ (ap vrefOf (c .before .enum-told .given .1) ∙ sym (ap ldoOf (c .before .enum-told .given .1)))
+returns c =
+    let told : tie.After-enum-told = search in
+    c .vref .ensures ∙ (ap vrefOf (told .enum-told .given .1) ∙ sym (ap ldoOf (told .enum-told .given .1)))
 
 returns-2 : tie.Need-returns-2
-returns-2 c = c .vref2 .ensures ∙ (ap vrefOf (c .before .enum-told2 .given .1) ∙ sym (ap ldoOf (c .before .enum-told2 .given .1)))
+returns-2 c =
+    let told2 : tie.After-enum-told2 = search in
+    c .vref2 .ensures ∙ (ap vrefOf (told2 .enum-told2 .given .1) ∙ sym (ap ldoOf (told2 .enum-told2 .given .1)))
 
 returns-3 : tie.Need-returns-3
-returns-3 c = ap (λ (row : HpsysDvfsConfig). row .ldo) (c .before .before .before .get-config .ensures) ∙ (ap (λ (m : HpsysDvfsMode). rowOf m .ldo) (c .before .enum-told3 .given .1) ∙ sym (ap ldoOf (c .before .enum-told3 .given .1)))
+returns-3 c =
+    let told3 : tie.After-enum-told3 = search in
+    let read : tie.After-get-config = search in
+    let mode = told3 .enum-told3 .given .1 in
+    ap (λ (row : HpsysDvfsConfig). row .ldo) (read .get-config .ensures) ∙ (ap (λ (m : HpsysDvfsMode). rowOf m .ldo) mode ∙ sym (ap ldoOf mode))
 
 returns-4 : tie.Need-returns-4
-returns-4 c = ap (λ (row : HpsysDvfsConfig). row .ldo) (c .before .before .before .get-config .ensures) ∙ (ap (λ (m : HpsysDvfsMode). rowOf m .ldo) (c .before .enum-told4 .given .1) ∙ sym (ap ldoOf (c .before .enum-told4 .given .1)))
+returns-4 c =
+    let told4 : tie.After-enum-told4 = search in
+    let read : tie.After-get-config = search in
+    let mode = told4 .enum-told4 .given .1 in
+    ap (λ (row : HpsysDvfsConfig). row .ldo) (read .get-config .ensures) ∙ (ap (λ (m : HpsysDvfsMode). rowOf m .ldo) mode ∙ sym (ap ldoOf mode))
 
 pub ldo-spec : {M : Type 1} → statement M
 ldo-spec =

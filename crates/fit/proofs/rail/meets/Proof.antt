@@ -18,7 +18,8 @@ cast-buck c = search needs
 returns : tie.Need-returns
 unfolding met
 returns c =
-    let buck = ap (λ (row : HpsysDvfsConfig). row .buck) (c .before .before .get-config .ensures) in
+    let after-get-config : tie.After-get-config = search in
+    let buck = ap (λ (row : HpsysDvfsConfig). row .buck) (after-get-config .get-config .ensures) in
     rw (lt-leb _ _ (rw buck at (c .if1 .taken)))
 
 ldo-requires : tie.Need-ldo-requires
@@ -27,8 +28,10 @@ ldo-requires c κs = search needs
 returns-2 : tie.Need-returns-2
 unfolding met
 returns-2 c =
-    let buck = ap (λ (row : HpsysDvfsConfig). row .buck) (c .before .before .before .get-config .ensures) in
-    rw (le-leb _ _ (rw buck at (c .before .if1 .left)), c .ldo .ensures)
+    let else1 : tie.Else1 = search in
+    let after-get-config : tie.After-get-config = search in
+    let buck = ap (λ (row : HpsysDvfsConfig). row .buck) (after-get-config .get-config .ensures) in
+    rw (le-leb _ _ (rw buck at (else1 .if1 .left)), c .ldo .ensures)
 
 pub meets-spec : {M : Type 1} → statement M
 meets-spec = tie.close (tie.spec get-config-requires cast-buck returns ldo-requires returns-2)

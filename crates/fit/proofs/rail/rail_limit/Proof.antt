@@ -22,8 +22,11 @@ higher-requires c κs = search needs
 returns : tie.Need-returns
 unfolding railLimit
 returns c =
-    let h = c .before .before .before .before .args .h in
-    c .higher .ensures ∙ sym (on-s (reg h 12) (reg h 13) (reg h 14) (reg h 15) (reg h 16) (sym (c .before .before .is-hpsys-dvfs-mode-s .ensures) ∙ c .before .if1 .taken))
+    let then1 : tie.Then1 = search in
+    let after-is-hpsys-dvfs-mode-s : tie.After-is-hpsys-dvfs-mode-s = search in
+    let start : tie.Start = search in
+    let h = start .args .h in
+    c .higher .ensures ∙ sym (on-s (reg h 12) (reg h 13) (reg h 14) (reg h 15) (reg h 16) (sym (after-is-hpsys-dvfs-mode-s .is-hpsys-dvfs-mode-s .ensures) ∙ then1 .if1 .taken))
 
 array-read-higher-3 : tie.Need-array-read-higher-3
 array-read-higher-3 c = search needs
@@ -37,8 +40,11 @@ higher-requires-2 c κs = search needs
 returns-2 : tie.Need-returns-2
 unfolding railLimit
 returns-2 c =
-    let h = c .before .before .before .before .args .h in
-    c .higher2 .ensures ∙ sym (on-d (reg h 12) (reg h 13) (reg h 14) (reg h 15) (reg h 16) (sym (c .before .before .is-hpsys-dvfs-mode-s .ensures) ∙ c .before .if1 .left))
+    let else1 : tie.Else1 = search in
+    let after-is-hpsys-dvfs-mode-s : tie.After-is-hpsys-dvfs-mode-s = search in
+    let start : tie.Start = search in
+    let h = start .args .h in
+    c .higher2 .ensures ∙ sym (on-d (reg h 12) (reg h 13) (reg h 14) (reg h 15) (reg h 16) (sym (after-is-hpsys-dvfs-mode-s .is-hpsys-dvfs-mode-s .ensures) ∙ else1 .if1 .left))
 
 pub rail-limit-spec : {M : Type 1} → statement M
 rail-limit-spec =

@@ -14,35 +14,51 @@ is-fit-requires c κs = search needs
 
 returns : tie.Need-returns
 returns c =
-    let args = c .before .before .args in
-    sym (unfit (args .p) (args .head) (sym (c .before .is-fit .ensures) ∙ not-true _ (c .if1 .taken)))
+    let after-is-fit : tie.After-is-fit = search in
+    let start : tie.Start = search in
+    let args = start .args in
+    sym (unfit (args .p) (args .head) (sym (after-is-fit .is-fit .ensures) ∙ not-true _ (c .if1 .taken)))
 
 is-unready-requires : tie.Need-is-unready-requires
 is-unready-requires c κs = search needs
 
 returns-2 : tie.Need-returns-2
 returns-2 c =
-    let args = c .before .before .before .before .args in
-    sym (not-ready (args .p) (args .head) (sym (c .before .before .before .is-fit .ensures) ∙ not-false _ (c .before .before .if1 .left)) (sym (c .before .is-unready .ensures) ∙ c .if2 .taken))
+    let after-is-unready : tie.After-is-unready = search in
+    let else1 : tie.Else1 = search in
+    let after-is-fit : tie.After-is-fit = search in
+    let start : tie.Start = search in
+    let args = start .args in
+    sym (not-ready (args .p) (args .head) (sym (after-is-fit .is-fit .ensures) ∙ not-false _ (else1 .if1 .left)) (sym (after-is-unready .is-unready .ensures) ∙ c .if2 .taken))
 
 is-overloaded-requires : tie.Need-is-overloaded-requires
 is-overloaded-requires c κs = search needs
 
 returns-3 : tie.Need-returns-3
 returns-3 c =
-    let start = c .before .before .before .before .before .before in
+    let after-is-overloaded : tie.After-is-overloaded = search in
+    let else2 : tie.Else2 = search in
+    let after-is-unready : tie.After-is-unready = search in
+    let else1 : tie.Else1 = search in
+    let after-is-fit : tie.After-is-fit = search in
+    let start : tie.Start = search in
     let p = start .args .p in
     let h = start .args .head in
-    let load = ap (λ (n : ℕ). overloaded n h) (sym (start .pre .1)) ∙ (sym (c .before .is-overloaded .ensures) ∙ c .if3 .taken) in
-    sym (too-much p h (sym (c .before .before .before .before .before .is-fit .ensures) ∙ not-false _ (c .before .before .before .before .if1 .left)) (sym (c .before .before .before .is-unready .ensures) ∙ c .before .before .if2 .left) load)
+    let load = ap (λ (n : ℕ). overloaded n h) (sym (start .pre .1)) ∙ (sym (after-is-overloaded .is-overloaded .ensures) ∙ c .if3 .taken) in
+    sym (too-much p h (sym (after-is-fit .is-fit .ensures) ∙ not-false _ (else1 .if1 .left)) (sym (after-is-unready .is-unready .ensures) ∙ else2 .if2 .left) load)
 
 returns-4 : tie.Need-returns-4
 returns-4 c =
-    let start = c .before .before .before .before .before .before in
+    let after-is-overloaded : tie.After-is-overloaded = search in
+    let else2 : tie.Else2 = search in
+    let after-is-unready : tie.After-is-unready = search in
+    let else1 : tie.Else1 = search in
+    let after-is-fit : tie.After-is-fit = search in
+    let start : tie.Start = search in
     let p = start .args .p in
     let h = start .args .head in
-    let load = ap (λ (n : ℕ). overloaded n h) (sym (start .pre .1)) ∙ (sym (c .before .is-overloaded .ensures) ∙ c .if3 .left) in
-    sym (passes p h (sym (c .before .before .before .before .before .is-fit .ensures) ∙ not-false _ (c .before .before .before .before .if1 .left)) (sym (c .before .before .before .is-unready .ensures) ∙ c .before .before .if2 .left) load)
+    let load = ap (λ (n : ℕ). overloaded n h) (sym (start .pre .1)) ∙ (sym (after-is-overloaded .is-overloaded .ensures) ∙ c .if3 .left) in
+    sym (passes p h (sym (after-is-fit .is-fit .ensures) ∙ not-false _ (else1 .if1 .left)) (sym (after-is-unready .is-unready .ensures) ∙ else2 .if2 .left) load)
 
 pub refusal-spec : {M : Type 1} → statement M
 refusal-spec =

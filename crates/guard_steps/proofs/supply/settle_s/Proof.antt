@@ -1,4 +1,4 @@
--- `guard_steps::supply::settle_s` meets its contract: one step after the other. Assumes nothing.
+-- `guard_steps::supply::target_rails_s` meets its contract: one step after the other. Assumes nothing.
 use Rattle.dvfs_hpsys.proofs.volts.Rows.{supply-fits}
 use Rattle.journal.proofs.Does.{_then_}
 use borrow.Author.Needs.{needs}

@@ -1,6 +1,6 @@
 -- `head::from_bytes::blank_head` meets its contract: the value made is `blank`. Assumes nothing.
 use mathlib.Core.Path.{refl}
-use Rattle.head.specs.from_bytes.Record.{blank}
+use Rattle.head.specs.Record.{blank}
 use Rattle.head.proofs.from_bytes.blank_head.Statement.{statement}
 use Rattle.head.proofs.from_bytes.blank_head.Tie as tie
 

@@ -1,7 +1,7 @@
 -- `head::from_bytes::decode` meets its contract: a refused record gives `blank`, and any other passed the tests. Assumes nothing.
 use mathlib.Core.Path.{_≡_, sym, _∙_}
 use borrow.Author.Tests.{eq-eqb, ne-eqb}
-use Rattle.head.specs.from_bytes.Record.{headRefusal}
+use Rattle.head.specs.Record.{headRefusal}
 use Rattle.head.proofs.from_bytes.Passed.{passed}
 use Rattle.head.proofs.from_bytes.Decoding.{decode-encodable}
 use borrow.Author.Needs.{needs}

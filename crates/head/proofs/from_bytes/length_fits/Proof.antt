@@ -2,7 +2,7 @@
 use native.Mathlib.Omega.{arith}
 use borrow.Author.Tests.{eq-eqb, ne-eqb, lt-leb, le-leb}
 use Rattle.layout.specs.Layout.{taskCountAt, mostTasks}
-use Rattle.head.specs.from_bytes.Record.{lengthFits}
+use Rattle.head.specs.Record.{lengthFits}
 use borrow.Author.Needs.{needs}
 use Rattle.head.proofs.from_bytes.length_fits.Statement.{statement}
 use Rattle.head.proofs.from_bytes.length_fits.Tie as tie

@@ -1,5 +1,5 @@
 -- `head::from_bytes::read` meets its contract: each field is the part of the record that `headOf` names. Assumes nothing.
-use Rattle.head.specs.from_bytes.Record.{headOf}
+use Rattle.head.specs.Record.{headOf}
 use borrow.Author.Needs.{needs}
 use Rattle.head.proofs.from_bytes.read.Statement.{statement}
 use Rattle.head.proofs.from_bytes.read.Tie as tie

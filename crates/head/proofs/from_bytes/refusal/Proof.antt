@@ -8,7 +8,7 @@ use Rattle.layout.specs.Layout.{versionAt, registerSize, codedSize}
 use Rattle.record.specs.Bytes.{isWithin}
 use Rattle.record.specs.Refusals.{firstOf}
 use Rattle.register.specs.Codes.{largest}
-use Rattle.head.specs.from_bytes.Record.{lengthFits, headRefusal}
+use Rattle.head.specs.Record.{lengthFits, headRefusal}
 use Rattle.task.specs.bytes.{tasksFit}
 use Rattle.head.proofs.from_bytes.Passed.{fits-length, fits-count}
 use borrow.Author.Needs.{needs}

@@ -50,7 +50,8 @@ loop-again c =
     let turn : tie.At-loop Inv-loop μ-loop = search in
     let start : tie.Start Inv-loop μ-loop = search in
     let inv = turn .loop .inv .1 .1 in
-    let step = up-turn noTask (start .args .tasks) (start .args .at) (omega (arith, turn .loop .inv .0, inv .0)) (turn .loop .i) (turn .loop .tasks) (turn .loop .inv .0) (omega (arith, inv .0)) (inv .1 .1) in
+    let l = turn .loop in
+    let step = up-turn noTask (start .args .tasks) (start .args .at) (omega (arith, l .inv .0, inv .0)) (l .i) (l .tasks) (l .inv .0) (omega (arith, inv .0)) (inv .1 .1) in
     (omega arith, (omega arith, (inv .0, (simp length-set (inv .1 .0), step))))
 
 array-set-from-tasks-2 : tie.Need-array-set-from-tasks-2 Inv-loop μ-loop

@@ -1,6 +1,6 @@
 -- `head::to_bytes::write_front` meets its contract: the bytes put are those of `frontOf`. Assumes nothing.
 use mathlib.Core.Path.{_∙_}
-use Rattle.head.specs.from_bytes.Record.{frontOf}
+use Rattle.head.specs.Record.{frontOf}
 use borrow.Author.Needs.{needs}
 use Rattle.head.proofs.to_bytes.write_front.Statement.{statement}
 use Rattle.head.proofs.to_bytes.write_front.Tie as tie

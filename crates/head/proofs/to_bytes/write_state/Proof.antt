@@ -1,6 +1,6 @@
 -- `head::to_bytes::write_state` meets its contract: the bytes put are those of `stateOf`. Assumes nothing.
 use mathlib.Core.Path.{_∙_}
-use Rattle.head.specs.from_bytes.Record.{stateOf}
+use Rattle.head.specs.Record.{stateOf}
 use borrow.Author.Needs.{needs}
 use Rattle.head.proofs.to_bytes.write_state.Statement.{statement}
 use Rattle.head.proofs.to_bytes.write_state.Tie as tie

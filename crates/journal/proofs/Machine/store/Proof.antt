@@ -17,7 +17,9 @@ mul-journal : tie.Need-mul-journal
 mul-journal c = search needs
 
 add-journal : tie.Need-add-journal
-add-journal c = omega (arith, fits-word _ _ (c .before .before .pre .1 .1))
+add-journal c =
+    let start : tie.Start = search in
+    omega (arith, fits-word _ _ (start .pre .1 .1))
 
 mul-journal-2 : tie.Need-mul-journal-2
 mul-journal-2 c = search needs

@@ -1,6 +1,6 @@
 -- `limits::sources::core_on_dbl96` meets its contract. Assumes nothing.
 use mathlib.Core.Path.{refl}
-use Rattle.limits.specs.sources.{coreOnDbl96}
+use Rattle.limits.specs.Limits.{coreOnDbl96}
 use Rattle.limits.proofs.sources.core_on_dbl96.Statement.{statement}
 use Rattle.limits.proofs.sources.core_on_dbl96.Tie as tie
 

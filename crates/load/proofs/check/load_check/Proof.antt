@@ -9,7 +9,7 @@ use borrow.Author.Needs.{needs}
 use borrow.Author.Tests.{eq-eqb, ne-eqb, lt-ltb, le-ltb, not-true, not-false}
 use Rattle.task.specs.Task.{allOk, distinct}
 use Rattle.load.specs.Load.{loadOf}
-use Rattle.load.specs.check.{listedSize, listed}
+use Rattle.load.specs.check.{listedSize, listedTasks}
 use Rattle.load.proofs.check.Cases.{refuses, accepts, not-nine-each, too-many, one-wrong, two-alike, none, first-listed}
 use Rattle.load.proofs.check.load_check.Statement.{statement}
 use Rattle.load.proofs.check.load_check.Tie as tie
@@ -31,12 +31,6 @@ returns-2 c =
     let else1 : tie.Else1 = search in
     c .refused2 .ensures ∙ refuses _ 41 (λ z. omega arith) (too-many _ (eq-eqb _ _ (else1 .if1 .left)) (lt-ltb _ _ (then2 .if2 .taken)))
 
-tasks-at-requires : tie.Need-tasks-at-requires
-tasks-at-requires c κs = search needs
-
-load-requires : tie.Need-load-requires
-load-requires c κs = search needs
-
 all-ok-requires : tie.Need-all-ok-requires
 all-ok-requires c κs = search needs
 
@@ -44,7 +38,7 @@ refused-requires-3 : tie.Need-refused-requires-3
 refused-requires-3 c κs = search needs
 
 returns-3 : tie.Need-returns-3
-unfolding listed
+unfolding listedTasks
 returns-3 c =
     let then3 : tie.Then3 = search in
     let tested : tie.After-all-ok = search in
@@ -52,7 +46,7 @@ returns-3 c =
     let else1 : tie.Else1 = search in
     let start : tie.Start = search in
     let b = start .args .bytes .now in
-    let fails : allOk (listed b) ≡ false = sym (tested .all-ok .ensures) ∙ not-true _ (then3 .if3 .taken) in
+    let fails : allOk (listedTasks b) ≡ false = sym (tested .all-ok .ensures) ∙ not-true _ (then3 .if3 .taken) in
     c .refused3 .ensures ∙ refuses b 16 (λ z. omega arith) (one-wrong b (eq-eqb _ _ (else1 .if1 .left)) (le-ltb _ _ (else2 .if2 .left)) fails)
 
 distinct-requires : tie.Need-distinct-requires
@@ -62,7 +56,7 @@ refused-requires-4 : tie.Need-refused-requires-4
 refused-requires-4 c κs = search needs
 
 returns-4 : tie.Need-returns-4
-unfolding listed
+unfolding listedTasks
 returns-4 c =
     let then4 : tie.Then4 = search in
     let compared : tie.After-distinct = search in
@@ -72,25 +66,31 @@ returns-4 c =
     let else1 : tie.Else1 = search in
     let start : tie.Start = search in
     let b = start .args .bytes .now in
-    let holds : allOk (listed b) ≡ true = sym (tested .all-ok .ensures) ∙ not-false _ (else3 .if3 .left) in
-    let fails : distinct (listed b) ≡ false = sym (compared .distinct .ensures) ∙ not-true _ (then4 .if4 .taken) in
+    let holds : allOk (listedTasks b) ≡ true = sym (tested .all-ok .ensures) ∙ not-false _ (else3 .if3 .left) in
+    let fails : distinct (listedTasks b) ≡ false = sym (compared .distinct .ensures) ∙ not-true _ (then4 .if4 .taken) in
     c .refused4 .ensures ∙ refuses b 40 (λ z. omega arith) (two-alike b (eq-eqb _ _ (else1 .if1 .left)) (le-ltb _ _ (else2 .if2 .left)) holds fails)
 
+tasks-at-requires : tie.Need-tasks-at-requires
+tasks-at-requires c κs = search needs
+
+load-requires : tie.Need-load-requires
+load-requires c κs = search needs
+
 returns-5 : tie.Need-returns-5
-unfolding listed
+unfolding listedTasks
 returns-5 c =
+    let read : tie.After-tasks-at = search in
+    let else4 : tie.Else4 = search in
     let compared : tie.After-distinct = search in
     let else3 : tie.Else3 = search in
     let tested : tie.After-all-ok = search in
-    let summed : tie.After-load = search in
-    let read : tie.After-tasks-at = search in
     let else2 : tie.Else2 = search in
     let else1 : tie.Else1 = search in
     let start : tie.Start = search in
     let b = start .args .bytes .now in
-    let holds : allOk (listed b) ≡ true = sym (tested .all-ok .ensures) ∙ not-false _ (else3 .if3 .left) in
-    let apart : distinct (listed b) ≡ true = sym (compared .distinct .ensures) ∙ not-false _ (c .if4 .left) in
-    let load = summed .load .ensures ∙ ap loadOf (ap (take (length b / listedSize)) (read .tasks-at .ensures) ∙ first-listed b) in
+    let holds : allOk (listedTasks b) ≡ true = sym (tested .all-ok .ensures) ∙ not-false _ (else3 .if3 .left) in
+    let apart : distinct (listedTasks b) ≡ true = sym (compared .distinct .ensures) ∙ not-false _ (else4 .if4 .left) in
+    let load = c .load .ensures ∙ ap loadOf (ap (take (length b / listedSize)) (read .tasks-at .ensures) ∙ first-listed b) in
     rw load (accepts b (none b (eq-eqb _ _ (else1 .if1 .left)) (le-ltb _ _ (else2 .if2 .left)) holds apart))
 
 pub load-check-spec : {M : Type 1} → statement M
@@ -101,12 +101,12 @@ load-check-spec =
     returns
     refused-requires-2
     returns-2
-    tasks-at-requires
-    load-requires
     all-ok-requires
     refused-requires-3
     returns-3
     distinct-requires
     refused-requires-4
     returns-4
+    tasks-at-requires
+    load-requires
     returns-5)

@@ -1,11 +1,9 @@
 -- `lpsys_request::frequency::config_lpsys_hclk_mhz` meets its contract: the shared tests, 15, then the request. Assumes nothing.
-use Rattle.journal.specs.Machine.{none}
-use Rattle.journal.proofs.Does.{lent-as}
-use Rattle.call.proofs.Admitting.{journal-room, started}
+use Rattle.call.proofs.Admitting.{lent-journal}
 use native.Mathlib.Omega.{arith}
 use mathlib.Core.Path.{sym, _∙_}
 use Rattle.record.proofs.Refusals.{only-test}
-use Rattle.call.proofs.Ending.{call-unadmitted, call-refused-by, call-ran, call-encodable, call-bytes}
+use Rattle.call.proofs.Ending.{call-unadmitted, call-refused-by, call-ran, call-bytes}
 use Rattle.lpsys_tests.proofs.Laws.{request-range}
 use Rattle.lpsys_request.specs.frequency.{requestTests, lpsysRequest}
 use borrow.Author.Needs.{needs}
@@ -64,11 +62,8 @@ request-requires c κs =
     let tested : tie.After-request-refusal = search in
     let else1 : tie.Else1 = search in
     let admitted : tie.After-admit = search in
-    let start : tie.Start = search in
-    let encodable = call-encodable (admitted .admit .ensures) (else1 .if1 .left) in
-    let room = journal-room (start .args .buffer .now) (start .args .journal .now) (admitted .admit .ensures) (else1 .if1 .left) in
-    let ready = started 6 _ _ _ (begun .start .ensures) encodable (omega arith) room in
-    (lent-as none ready tt, request-range _ (sym (tested .request-refusal .ensures) ∙ else2 .if2 .left))
+    let lent = lent-journal _ _ 6 _ (begun .start .ensures) (omega arith) (admitted .admit .ensures) (else1 .if1 .left) in
+    (lent, request-range _ (sym (tested .request-refusal .ensures) ∙ else2 .if2 .left))
 
 finish-requires : tie.Need-finish-requires
 finish-requires c κs =

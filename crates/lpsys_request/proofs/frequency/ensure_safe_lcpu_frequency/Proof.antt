@@ -5,10 +5,8 @@ use native.Mathlib.Omega.{arith}
 use mathlib.Core.Path.{sym, ap, _∙_}
 use Rattle.record.specs.Refusals.{firstOf}
 use Rattle.clock_read.specs.lpsys.{lpsysHclkOf}
-use Rattle.call.proofs.Ending.{call-unadmitted, call-refused, call-ran, call-encodable, call-bytes, call-head}
-use Rattle.journal.specs.Machine.{none}
-use Rattle.journal.proofs.Does.{lent-as}
-use Rattle.call.proofs.Admitting.{journal-room, started}
+use Rattle.call.proofs.Ending.{call-unadmitted, call-refused, call-ran, call-bytes, call-head}
+use Rattle.call.proofs.Admitting.{lent-journal}
 use Rattle.lpsys_request.specs.frequency.{safeTests, safeFrequency}
 use borrow.Author.Needs.{needs}
 use Rattle.lpsys_request.proofs.frequency.ensure_safe_lcpu_frequency.Statement.{statement}
@@ -72,10 +70,7 @@ slow-down-requires c κs =
     let begun : tie.After-start = search in
     let else1 : tie.Else1 = search in
     let admitted : tie.After-admit = search in
-    let start : tie.Start = search in
-    let encodable = call-encodable (admitted .admit .ensures) (else1 .if1 .left) in
-    let room = journal-room (start .args .buffer .now) (start .args .journal .now) (admitted .admit .ensures) (else1 .if1 .left) in
-    lent-as none (started 6 _ _ _ (begun .start .ensures) encodable (omega arith) room) tt
+    lent-journal _ _ 6 _ (begun .start .ensures) (omega arith) (admitted .admit .ensures) (else1 .if1 .left)
 
 finish-requires : tie.Need-finish-requires
 finish-requires c κs =

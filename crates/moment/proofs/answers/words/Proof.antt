@@ -25,7 +25,8 @@ same-length c = search needs
 
 returns : tie.Need-returns Inv-loop μ-loop
 returns c =
-    let inv = c .before .before .loop .inv in
+    let at-loop : tie.At-loop Inv-loop μ-loop = search in
+    let inv = at-loop .loop .inv in
     record { counts = (omega arith, sym (length-take-le _ _ (omega arith))); all = omega arith; each = inv .1 .1 .1 }
 
 mul-two-bytes : tie.Need-mul-two-bytes Inv-loop μ-loop
@@ -60,8 +61,10 @@ loop-less c = search needs
 
 loop-again : tie.Need-loop-again Inv-loop μ-loop
 loop-again c =
-    let loop = c .before .before .before .before .before .loop in
-    let bytes = c .before .before .before .before .before .before .before .before .args .bytes .now in
+    let at-loop : tie.At-loop Inv-loop μ-loop = search in
+    let start : tie.Start Inv-loop μ-loop = search in
+    let loop = at-loop .loop in
+    let bytes = start .args .bytes .now in
     (omega arith, (omega arith, (simp length-set (omega arith), one-more bytes (loop .answers) (loop .i) _ (omega arith) (c .two-bytes .ensures) (loop .inv .1 .1 .1))))
 
 same-length-2 : tie.Need-same-length-2 Inv-loop μ-loop
@@ -69,7 +72,8 @@ same-length-2 c = search needs
 
 returns-2 : tie.Need-returns-2 Inv-loop μ-loop
 returns-2 c =
-    let inv = c .before .loop .inv in
+    let at-loop : tie.At-loop Inv-loop μ-loop = search in
+    let inv = at-loop .loop .inv in
     record { counts = (omega arith, sym (length-take-le _ _ (omega arith))); all = omega arith; each = inv .1 .1 .1 }
 
 pub words-spec : {M : Type 1} → statement M

@@ -25,12 +25,18 @@ array-write-regs c = search needs
 returns : tie.Need-returns
 unfolding applied
 returns c =
-    let number = c .before .before .number .ensures .0 in
-    rw (number, c .value .ensures .0, lt-ltb (c .before .before .before .args .entry / 16777216) 35 (omega (arith, number, c .before .if1 .taken)))
+    let then1 : tie.Then1 = search in
+    let after-number : tie.After-number = search in
+    let start : tie.Start = search in
+    let number = after-number .number .ensures .0 in
+    rw (number, c .value .ensures .0, lt-ltb (start .args .entry / 16777216) 35 (omega (arith, number, then1 .if1 .taken)))
 
 returns-2 : tie.Need-returns-2
 unfolding applied
-returns-2 c = rw (le-ltb (c .before .before .args .entry / 16777216) 35 (omega (arith, c .before .number .ensures .0, c .if1 .left)))
+returns-2 c =
+    let after-number : tie.After-number = search in
+    let start : tie.Start = search in
+    rw (le-ltb (start .args .entry / 16777216) 35 (omega (arith, after-number .number .ensures .0, c .if1 .left)))
 
 pub after-spec : {M : Type 1} → statement M
 after-spec =

@@ -16,7 +16,11 @@ same-length : tie.Need-same-length
 same-length c = search needs
 
 returns : tie.Need-returns
-returns c = rw (c .before .before .write .ensures, c .before .before .before .before .after .ensures, c .before .before .before .before .before .read .ensures)
+returns c =
+    let after-write : tie.After-write = search in
+    let after-after : tie.After-after = search in
+    let after-read : tie.After-read = search in
+    rw (after-write .write .ensures, after-after .after .ensures, after-read .read .ensures)
 
 pub store-spec : {M : Type 1} → statement M
 store-spec = tie.close (tie.spec read-requires after-requires write-requires same-length returns)

@@ -14,7 +14,9 @@ digit-requires c κs = search needs
 
 returns-2 : tie.Need-returns-2
 unfolding leadingOf
-returns-2 c = rw (ne-eqb _ 0 (c .before .if1 .left)) (c .digit .ensures)
+returns-2 c =
+    let else1 : tie.Else1 = search in
+    rw (ne-eqb _ 0 (else1 .if1 .left)) (c .digit .ensures)
 
 pub leading-spec : {M : Type 1} → statement M
 leading-spec = tie.close (tie.spec returns digit-requires returns-2)

@@ -27,7 +27,22 @@ digit-requires-4 c κs = search needs
 
 returns : tie.Need-returns
 unfolding megahertzText
-returns c = simp (c .digit4 .ensures, c .before .digit3 .ensures, c .before .before .digit2 .ensures, c .before .before .before .digit .ensures, c .before .before .before .before .leading3 .ensures, c .before .before .before .before .before .leading2 .ensures, c .before .before .before .before .before .before .leading .ensures)
+returns c =
+    let after-digit3 : tie.After-digit3 = search in
+    let after-digit2 : tie.After-digit2 = search in
+    let after-digit : tie.After-digit = search in
+    let after-leading3 : tie.After-leading3 = search in
+    let after-leading2 : tie.After-leading2 = search in
+    let after-leading : tie.After-leading = search in
+    simp (
+      c .digit4 .ensures,
+      after-digit3 .digit3 .ensures,
+      after-digit2 .digit2 .ensures,
+      after-digit .digit .ensures,
+      after-leading3 .leading3 .ensures,
+      after-leading2 .leading2 .ensures,
+      after-leading .leading .ensures,
+    )
 
 pub megahertz-spec : {M : Type 1} → statement M
 megahertz-spec =

@@ -12,14 +12,21 @@ refusal-requires c κs = search needs
 
 returns : tie.Need-returns
 unfolding decoded
-returns c = simp (← c .before .refusal .ensures, ne-eqb _ _ (c .if1 .taken))
+returns c =
+    let after-refusal : tie.After-refusal = search in
+    simp (← after-refusal .refusal .ensures, ne-eqb _ _ (c .if1 .taken))
 
 fields-requires : tie.Need-fields-requires
-fields-requires c κs = well-formed _ (sym (c .before .refusal .ensures) ∙ c .if1 .left) .bytes
+fields-requires c κs =
+    let after-refusal : tie.After-refusal = search in
+    well-formed _ (sym (after-refusal .refusal .ensures) ∙ c .if1 .left) .bytes
 
 returns-2 : tie.Need-returns-2
 unfolding decoded
-returns-2 c = simp (← c .before .before .refusal .ensures, eq-eqb _ _ (c .before .if1 .left), c .fields .ensures)
+returns-2 c =
+    let else1 : tie.Else1 = search in
+    let after-refusal : tie.After-refusal = search in
+    simp (← after-refusal .refusal .ensures, eq-eqb _ _ (else1 .if1 .left), c .fields .ensures)
 
 pub decode-spec : {M : Type 1} → statement M
 decode-spec = tie.close (tie.spec refusal-requires returns fields-requires returns-2)

@@ -30,7 +30,24 @@ flag-requires-2 c κs = search needs
 
 returns : tie.Need-returns
 unfolding encoded
-returns c = simp (c .flag2 .ensures, c .before .flag .ensures, c .before .before .half2 .ensures, c .before .before .before .stage2 .ensures, c .before .before .before .before .present2 .ensures, c .before .before .before .before .before .half .ensures, c .before .before .before .before .before .before .stage .ensures, c .before .before .before .before .before .before .before .present .ensures)
+returns c =
+    let after-flag : tie.After-flag = search in
+    let after-half2 : tie.After-half2 = search in
+    let after-stage2 : tie.After-stage2 = search in
+    let after-present2 : tie.After-present2 = search in
+    let after-half : tie.After-half = search in
+    let after-stage : tie.After-stage = search in
+    let after-present : tie.After-present = search in
+    simp (
+      c .flag2 .ensures,
+      after-flag .flag .ensures,
+      after-half2 .half2 .ensures,
+      after-stage2 .stage2 .ensures,
+      after-present2 .present2 .ensures,
+      after-half .half .ensures,
+      after-stage .stage .ensures,
+      after-present .present .ensures,
+    )
 
 pub encode-spec : {M : Type 1} → statement M
 encode-spec =

@@ -63,7 +63,10 @@ shared-slice-read-t39 c = search needs
 
 returns : tie.Need-returns
 unfolding planOf
-returns c = simp (c .before .before .before .before .before .before .before .dll2 .ensures, c .before .before .before .before .before .before .before .before .before .before .before .dll .ensures)
+returns c =
+    let after-dll2 : tie.After-dll2 = search in
+    let after-dll : tie.After-dll = search in
+    simp (after-dll2 .dll2 .ensures, after-dll .dll .ensures)
 
 pub fields-spec : {M : Type 1} → statement M
 fields-spec =

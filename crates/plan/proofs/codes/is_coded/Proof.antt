@@ -24,39 +24,61 @@ within-requires c κs = search needs
 
 returns : tie.Need-returns
 unfolding coded
-returns c = simp (← (rw rest-whole at (c .before .within .ensures)), not-true (c .before .within .result) (c .if1 .taken))
+returns c =
+    let after-within : tie.After-within = search in
+    simp (← (rw rest-whole at (after-within .within .ensures)), not-true (after-within .within .result) (c .if1 .taken))
 
-shared-slice-read-is-settled : tie.Need-shared-slice-read-is-settled
-shared-slice-read-is-settled c = search needs
+shared-slice-read-dll-bytes-legal : tie.Need-shared-slice-read-dll-bytes-legal
+shared-slice-read-dll-bytes-legal c = search needs
 
-shared-slice-read-is-settled-2 : tie.Need-shared-slice-read-is-settled-2
-shared-slice-read-is-settled-2 c = search needs
+shared-slice-read-dll-bytes-legal-2 : tie.Need-shared-slice-read-dll-bytes-legal-2
+shared-slice-read-dll-bytes-legal-2 c = search needs
 
-shared-slice-read-is-settled-3 : tie.Need-shared-slice-read-is-settled-3
-shared-slice-read-is-settled-3 c = search needs
+shared-slice-read-dll-bytes-legal-3 : tie.Need-shared-slice-read-dll-bytes-legal-3
+shared-slice-read-dll-bytes-legal-3 c = search needs
 
-is-settled-requires : tie.Need-is-settled-requires
-is-settled-requires c κs = search needs
+dll-bytes-legal-requires : tie.Need-dll-bytes-legal-requires
+dll-bytes-legal-requires c κs = search needs
 
 returns-2 : tie.Need-returns-2
 unfolding coded
-returns-2 c = simp (← (rw rest-whole at (c .before .before .before .before .before .before .within .ensures)), not-false (c .before .before .before .before .before .before .within .result) (c .before .before .before .before .before .if1 .left), ← c .before .is-settled .ensures, not-true (c .before .is-settled .result) (c .if2 .taken))
+returns-2 c =
+    let after-dll-bytes-legal : tie.After-dll-bytes-legal = search in
+    let else1 : tie.Else1 = search in
+    let after-within : tie.After-within = search in
+    simp (
+      ← (rw rest-whole at (after-within .within .ensures)),
+      not-false (after-within .within .result) (else1 .if1 .left),
+      ← after-dll-bytes-legal .dll-bytes-legal .ensures,
+      not-true (after-dll-bytes-legal .dll-bytes-legal .result) (c .if2 .taken),
+    )
 
-shared-slice-read-is-settled-4 : tie.Need-shared-slice-read-is-settled-4
-shared-slice-read-is-settled-4 c = search needs
+shared-slice-read-dll-bytes-legal-4 : tie.Need-shared-slice-read-dll-bytes-legal-4
+shared-slice-read-dll-bytes-legal-4 c = search needs
 
-shared-slice-read-is-settled-5 : tie.Need-shared-slice-read-is-settled-5
-shared-slice-read-is-settled-5 c = search needs
+shared-slice-read-dll-bytes-legal-5 : tie.Need-shared-slice-read-dll-bytes-legal-5
+shared-slice-read-dll-bytes-legal-5 c = search needs
 
-shared-slice-read-is-settled-6 : tie.Need-shared-slice-read-is-settled-6
-shared-slice-read-is-settled-6 c = search needs
+shared-slice-read-dll-bytes-legal-6 : tie.Need-shared-slice-read-dll-bytes-legal-6
+shared-slice-read-dll-bytes-legal-6 c = search needs
 
-is-settled-requires-2 : tie.Need-is-settled-requires-2
-is-settled-requires-2 c κs = search needs
+dll-bytes-legal-requires-2 : tie.Need-dll-bytes-legal-requires-2
+dll-bytes-legal-requires-2 c κs = search needs
 
 returns-3 : tie.Need-returns-3
 unfolding coded
-returns-3 c = simp (← (rw rest-whole at (c .before .before .before .before .before .before .before .before .before .before .within .ensures)), not-false (c .before .before .before .before .before .before .before .before .before .before .within .result) (c .before .before .before .before .before .before .before .before .before .if1 .left), ← c .before .before .before .before .before .is-settled .ensures, not-false (c .before .before .before .before .before .is-settled .result) (c .before .before .before .before .if2 .left), ← c .is-settled2 .ensures)
+returns-3 c =
+    let else2 : tie.Else2 = search in
+    let after-dll-bytes-legal : tie.After-dll-bytes-legal = search in
+    let else1 : tie.Else1 = search in
+    let after-within : tie.After-within = search in
+    simp (
+      ← (rw rest-whole at (after-within .within .ensures)),
+      not-false (after-within .within .result) (else1 .if1 .left),
+      ← after-dll-bytes-legal .dll-bytes-legal .ensures,
+      not-false (after-dll-bytes-legal .dll-bytes-legal .result) (else2 .if2 .left),
+      ← c .dll-bytes-legal2 .ensures,
+    )
 
 pub is-coded-spec : {M : Type 1} → statement M
 is-coded-spec =
@@ -68,13 +90,13 @@ is-coded-spec =
     slice-aggregate-within
     within-requires
     returns
-    shared-slice-read-is-settled
-    shared-slice-read-is-settled-2
-    shared-slice-read-is-settled-3
-    is-settled-requires
+    shared-slice-read-dll-bytes-legal
+    shared-slice-read-dll-bytes-legal-2
+    shared-slice-read-dll-bytes-legal-3
+    dll-bytes-legal-requires
     returns-2
-    shared-slice-read-is-settled-4
-    shared-slice-read-is-settled-5
-    shared-slice-read-is-settled-6
-    is-settled-requires-2
+    shared-slice-read-dll-bytes-legal-4
+    shared-slice-read-dll-bytes-legal-5
+    shared-slice-read-dll-bytes-legal-6
+    dll-bytes-legal-requires-2
     returns-3)

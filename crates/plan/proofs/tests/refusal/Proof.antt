@@ -21,25 +21,44 @@ two-bytes-requires c κs = search needs
 
 returns-2 : tie.Need-returns-2
 unfolding recordRefusal firstOf
-returns-2 c = simp (eq-eqb _ _ (c .before .before .before .before .if1 .left), ← c .before .two-bytes .ensures, ne-eqb _ _ (c .if2 .taken))
+returns-2 c =
+    let after-two-bytes : tie.After-two-bytes = search in
+    let else1 : tie.Else1 = search in
+    simp (eq-eqb _ _ (else1 .if1 .left), ← after-two-bytes .two-bytes .ensures, ne-eqb _ _ (c .if2 .taken))
 
 shared-slice-read-if3 : tie.Need-shared-slice-read-if3
 shared-slice-read-if3 c = search needs
 
 returns-3 : tie.Need-returns-3
 unfolding recordRefusal firstOf
-returns-3 c = simp (eq-eqb _ _ (c .before .before .before .before .before .before .if1 .left), ← c .before .before .before .two-bytes .ensures, eq-eqb _ _ (c .before .before .if2 .left), ne-eqb _ _ (c .if3 .taken))
+returns-3 c =
+    let else2 : tie.Else2 = search in
+    let after-two-bytes : tie.After-two-bytes = search in
+    let else1 : tie.Else1 = search in
+    simp (eq-eqb _ _ (else1 .if1 .left), ← after-two-bytes .two-bytes .ensures, eq-eqb _ _ (else2 .if2 .left), ne-eqb _ _ (c .if3 .taken))
 
 is-coded-requires : tie.Need-is-coded-requires
 is-coded-requires c κs = search needs
 
 returns-4 : tie.Need-returns-4
 unfolding recordRefusal firstOf
-returns-4 c = simp (eq-eqb _ _ (c .before .before .before .before .before .before .before .before .if1 .left), ← c .before .before .before .before .before .two-bytes .ensures, eq-eqb _ _ (c .before .before .before .before .if2 .left), eq-eqb _ _ (c .before .before .if3 .left), ← c .before .is-coded .ensures, c .if4 .taken)
+returns-4 c =
+    let after-is-coded : tie.After-is-coded = search in
+    let else3 : tie.Else3 = search in
+    let else2 : tie.Else2 = search in
+    let after-two-bytes : tie.After-two-bytes = search in
+    let else1 : tie.Else1 = search in
+    simp (eq-eqb _ _ (else1 .if1 .left), ← after-two-bytes .two-bytes .ensures, eq-eqb _ _ (else2 .if2 .left), eq-eqb _ _ (else3 .if3 .left), ← after-is-coded .is-coded .ensures, c .if4 .taken)
 
 returns-5 : tie.Need-returns-5
 unfolding recordRefusal firstOf
-returns-5 c = simp (eq-eqb _ _ (c .before .before .before .before .before .before .before .before .if1 .left), ← c .before .before .before .before .before .two-bytes .ensures, eq-eqb _ _ (c .before .before .before .before .if2 .left), eq-eqb _ _ (c .before .before .if3 .left), ← c .before .is-coded .ensures, c .if4 .left)
+returns-5 c =
+    let after-is-coded : tie.After-is-coded = search in
+    let else3 : tie.Else3 = search in
+    let else2 : tie.Else2 = search in
+    let after-two-bytes : tie.After-two-bytes = search in
+    let else1 : tie.Else1 = search in
+    simp (eq-eqb _ _ (else1 .if1 .left), ← after-two-bytes .two-bytes .ensures, eq-eqb _ _ (else2 .if2 .left), eq-eqb _ _ (else3 .if3 .left), ← after-is-coded .is-coded .ensures, c .if4 .left)
 
 pub refusal-spec : {M : Type 1} → statement M
 refusal-spec =

@@ -5,9 +5,9 @@ use mathlib.Core.Bool.{Bool, true, false, cond}
 use mathlib.Core.List.{[], _∷_}
 use lib.Dec.{eqb}
 use lib.ListN.{getD}
-use Rattle.clock.specs.clocks.{maybe}
+use Rattle.time.specs.MaybeHertz.{maybe}
 use Rattle.head.specs.declared.Head.{Head}
-use Rattle.head.specs.from_bytes.Record.{headRefusal, headOf}
+use Rattle.head.specs.Record.{headRefusal, headOf}
 use Rattle.clock_read.specs.lpsys.{lpsysHclkOf}
 use Rattle.readings.specs.hclk.{hclkIn}
 use Rattle.readings.specs.Clocks.{lpsysOf}
@@ -29,7 +29,9 @@ array-read-t7 c = search needs
 
 returns : tie.Need-returns
 unfolding hclkIn
-returns c = let b = c .before .before .before .args .buffer .now in rw (c .read-lpsys .ensures .1) (second (eqb (headRefusal b) 0) (headOf b))
+returns c =
+    let start : tie.Start = search in
+    let b = start .args .buffer .now in rw (c .read-lpsys .ensures .1) (second (eqb (headRefusal b) 0) (headOf b))
 
 pub lpsys-hclk-spec : {M : Type 1} → statement M
 lpsys-hclk-spec = tie.close (tie.spec read-lpsys-requires array-read-t7 returns)

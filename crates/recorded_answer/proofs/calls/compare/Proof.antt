@@ -21,9 +21,12 @@ same-length c = search needs
 
 returns : tie.Need-returns
 returns c =
-    let args = c .before .before .before .before .before .before .before .before .before .before .before .before .before .before .before .before .before .before .args in
-    let first = c .before .before .before .before .before .before .before .before .put-given in
-    let last = c .before .before .before .before .put-left in
+    let after-put-left : tie.After-put-left = search in
+    let after-put-given : tie.After-put-given = search in
+    let start : tie.Start = search in
+    let args = start .args in
+    let first = after-put-given .put-given in
+    let last = after-put-left .put-left in
     let given = givenText (args .name .now) (args .argument .now) (args .buffer .now) (args .answers .now) (take (args .shown) (args .former)) in
     let left = leftText (args .answer) (args .left .now) (args .journal .now) (take (args .shown) (args .clocks)) in (
       rw (last .kept .1 .1 .1 .1 .1 .0, first .kept .1 .1 .1 .1 .1 .1 .0) at (c .compare .ensures .0),

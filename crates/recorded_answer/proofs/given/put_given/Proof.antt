@@ -32,7 +32,15 @@ same-length : tie.Need-same-length
 same-length c = search needs
 
 returns : tie.Need-returns
-returns c = puts-then (c .before .before .before .before .before .before .before .before .before .before .before .before .before .before .before .before .before .before .before .put .ensures) (puts-then (c .before .before .before .before .before .before .before .before .before .before .before .before .before .before .before .put-bytes .ensures) (puts-then (c .before .before .before .before .before .before .before .before .before .before .before .put-bytes2 .ensures) (puts-then (c .before .before .before .before .before .before .before .put-bytes3 .ensures) (c .before .before .put-words .ensures) (omega arith)) (omega arith)) (omega arith)) (omega arith)
+returns c =
+    let after-put-words : tie.After-put-words = search in
+    let after-put-bytes3 : tie.After-put-bytes3 = search in
+    let after-put-bytes2 : tie.After-put-bytes2 = search in
+    let after-put-bytes : tie.After-put-bytes = search in
+    let after-put : tie.After-put = search in
+    let lists = puts-then (after-put-bytes3 .put-bytes3 .ensures) (after-put-words .put-words .ensures) (omega arith) in
+    let record-and-lists = puts-then (after-put-bytes2 .put-bytes2 .ensures) lists (omega arith) in
+    puts-then (after-put .put .ensures) (puts-then (after-put-bytes .put-bytes .ensures) record-and-lists (omega arith)) (omega arith)
 
 pub put-given-spec : {M : Type 1} → statement M
 put-given-spec =

@@ -35,10 +35,14 @@ put-bytes-requires : tie.Need-put-bytes-requires
 put-bytes-requires c κs = search needs
 
 array-share-prefix-clocks : tie.Need-array-share-prefix-clocks
-array-share-prefix-clocks c = omega (arith, c .before .before .before .before .before .before .before .before .before .before .before .before .before .before .before .before .before .before .before .before .before .before .before .before .before .before .before .before .before .before .pre, c .before .before .before .before .before .before .before .before .before .before .before .before .before .before .before .before .before .before .before .before .before .before .before .before .before .before .before .before .before .before .good)
+array-share-prefix-clocks c =
+    let start : tie.Start = search in
+    omega (arith, start .pre, start .good)
 
 slice-aggregate-put-words-2 : tie.Need-slice-aggregate-put-words-2
-slice-aggregate-put-words-2 c = sym (length-take-le _ _ (omega (arith, c .before .before .before .before .before .before .before .before .before .before .before .before .before .before .before .before .before .before .before .before .before .before .before .before .before .before .before .before .before .before .before .pre, c .before .before .before .before .before .before .before .before .before .before .before .before .before .before .before .before .before .before .before .before .before .before .before .before .before .before .before .before .before .before .before .good)))
+slice-aggregate-put-words-2 c =
+    let start : tie.Start = search in
+    sym (length-take-le _ _ (omega (arith, start .pre, start .good)))
 
 put-words-requires-2 : tie.Need-put-words-requires-2
 put-words-requires-2 c κs = search needs
@@ -48,11 +52,18 @@ same-length c = search needs
 
 returns : tie.Need-returns
 returns c =
-    puts-then (c .before .before .before .before .before .before .before .before .before .before .before .before .before .before .before .before .before .before .before .before .before .before .before .before .before .before .before .before .before .put-after-blank .ensures)
-    (puts-then (c .before .before .before .before .before .before .before .before .before .before .before .before .before .before .before .before .before .before .before .before .before .before .before .before .put-after-blank2 .ensures)
-    (puts-then (c .before .before .before .before .before .before .before .before .before .before .before .before .before .before .before .before .before .before .before .before .put-after-blank3 .ensures)
-    (puts-then (c .before .before .before .before .before .before .before .before .before .before .before .before .before .before .before .before .put-after-blank4 .ensures)
-    (puts-then (c .before .before .before .before .before .before .before .before .before .before .before .put-words .ensures) (puts-then (c .before .before .before .before .before .before .before .put-bytes .ensures) (c .before .before .put-words2 .ensures) (omega arith)) (omega arith))
+    let after-put-words2 : tie.After-put-words2 = search in
+    let after-put-bytes : tie.After-put-bytes = search in
+    let after-put-words : tie.After-put-words = search in
+    let after-put-after-blank4 : tie.After-put-after-blank4 = search in
+    let after-put-after-blank3 : tie.After-put-after-blank3 = search in
+    let after-put-after-blank2 : tie.After-put-after-blank2 = search in
+    let after-put-after-blank : tie.After-put-after-blank = search in
+    puts-then (after-put-after-blank .put-after-blank .ensures)
+    (puts-then (after-put-after-blank2 .put-after-blank2 .ensures)
+    (puts-then (after-put-after-blank3 .put-after-blank3 .ensures)
+    (puts-then (after-put-after-blank4 .put-after-blank4 .ensures)
+    (puts-then (after-put-words .put-words .ensures) (puts-then (after-put-bytes .put-bytes .ensures) (after-put-words2 .put-words2 .ensures) (omega arith)) (omega arith))
     (omega arith))
     (omega arith))
     (omega arith))

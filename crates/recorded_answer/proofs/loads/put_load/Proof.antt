@@ -21,7 +21,11 @@ same-length : tie.Need-same-length
 same-length c = search needs
 
 returns : tie.Need-returns
-returns c = rw (← (c .before .before .before .before .before .before .before .before .before .load-check .ensures)) (puts-then (c .before .before .before .before .before .before .put-after-blank .ensures) (c .before .before .put-after-blank2 .ensures) (omega arith))
+returns c =
+    let after-put-after-blank2 : tie.After-put-after-blank2 = search in
+    let after-put-after-blank : tie.After-put-after-blank = search in
+    let after-load-check : tie.After-load-check = search in
+    rw (← (after-load-check .load-check .ensures)) (puts-then (after-put-after-blank .put-after-blank .ensures) (after-put-after-blank2 .put-after-blank2 .ensures) (omega arith))
 
 pub put-load-spec : {M : Type 1} → statement M
 put-load-spec =

@@ -82,7 +82,11 @@ same-length-2 : tie.Need-same-length-2
 same-length-2 c = search needs
 
 returns : tie.Need-returns
-returns c = rw ((c .before .before .before .before .before .before .before .enum-told .given .1), ← (c .before .before .before .before .before .before .before .before .before .before .before .before .four-at .ensures)) (c .before .before .before .before .config-lpsys-hclk-mhz .ensures)
+returns c =
+    let after-config-lpsys-hclk-mhz : tie.After-config-lpsys-hclk-mhz = search in
+    let after-enum-told : tie.After-enum-told = search in
+    let after-four-at : tie.After-four-at = search in
+    rw ((after-enum-told .enum-told .given .1), ← (after-four-at .four-at .ensures)) (after-config-lpsys-hclk-mhz .config-lpsys-hclk-mhz .ensures)
 
 same-length-3 : tie.Need-same-length-3
 same-length-3 c = search needs
@@ -91,7 +95,10 @@ same-length-4 : tie.Need-same-length-4
 same-length-4 c = search needs
 
 returns-2 : tie.Need-returns-2
-returns-2 c = rw (c .before .before .before .before .before .before .before .enum-told2 .given .1) (c .before .before .before .before .ensure-safe-lcpu-frequency .ensures)
+returns-2 c =
+    let after-ensure-safe-lcpu-frequency : tie.After-ensure-safe-lcpu-frequency = search in
+    let after-enum-told2 : tie.After-enum-told2 = search in
+    rw (after-enum-told2 .enum-told2 .given .1) (after-ensure-safe-lcpu-frequency .ensure-safe-lcpu-frequency .ensures)
 
 same-length-5 : tie.Need-same-length-5
 same-length-5 c = search needs
@@ -100,7 +107,10 @@ same-length-6 : tie.Need-same-length-6
 same-length-6 c = search needs
 
 returns-3 : tie.Need-returns-3
-returns-3 c = rw (c .before .before .before .before .before .before .before .enum-told3 .given .1) (c .before .before .before .before .wake-lcpu .ensures)
+returns-3 c =
+    let after-wake-lcpu : tie.After-wake-lcpu = search in
+    let after-enum-told3 : tie.After-enum-told3 = search in
+    rw (after-enum-told3 .enum-told3 .given .1) (after-wake-lcpu .wake-lcpu .ensures)
 
 same-length-7 : tie.Need-same-length-7
 same-length-7 c = search needs
@@ -109,7 +119,10 @@ same-length-8 : tie.Need-same-length-8
 same-length-8 c = search needs
 
 returns-4 : tie.Need-returns-4
-returns-4 c = rw (c .before .before .before .before .before .before .before .enum-told4 .given .1) (c .before .before .before .before .cancel-lcpu-active-request .ensures)
+returns-4 c =
+    let after-cancel-lcpu-active-request : tie.After-cancel-lcpu-active-request = search in
+    let after-enum-told4 : tie.After-enum-told4 = search in
+    rw (after-enum-told4 .enum-told4 .given .1) (after-cancel-lcpu-active-request .cancel-lcpu-active-request .ensures)
 
 same-length-9 : tie.Need-same-length-9
 same-length-9 c = search needs
@@ -118,7 +131,10 @@ same-length-10 : tie.Need-same-length-10
 same-length-10 c = search needs
 
 returns-5 : tie.Need-returns-5
-returns-5 c = rw (c .before .before .before .before .before .before .before .enum-told5 .given .1) (c .before .before .before .before .ensure-hxt48-ready .ensures)
+returns-5 c =
+    let after-ensure-hxt48-ready : tie.After-ensure-hxt48-ready = search in
+    let after-enum-told5 : tie.After-enum-told5 = search in
+    rw (after-enum-told5 .enum-told5 .given .1) (after-ensure-hxt48-ready .ensure-hxt48-ready .ensures)
 
 same-length-11 : tie.Need-same-length-11
 same-length-11 c = search needs
@@ -127,7 +143,11 @@ same-length-12 : tie.Need-same-length-12
 same-length-12 c = search needs
 
 returns-6 : tie.Need-returns-6
-returns-6 c = rw ((c .before .before .before .before .before .before .before .enum-told6 .given .1), ← (c .before .before .before .before .before .before .before .before .before .before .before .byte-at .ensures)) (c .before .before .before .before .set-lpsys-hdiv .ensures)
+returns-6 c =
+    let after-set-lpsys-hdiv : tie.After-set-lpsys-hdiv = search in
+    let after-enum-told6 : tie.After-enum-told6 = search in
+    let after-byte-at : tie.After-byte-at = search in
+    rw ((after-enum-told6 .enum-told6 .given .1), ← (after-byte-at .byte-at .ensures)) (after-set-lpsys-hdiv .set-lpsys-hdiv .ensures)
 
 same-length-13 : tie.Need-same-length-13
 same-length-13 c = search needs
@@ -136,7 +156,18 @@ same-length-14 : tie.Need-same-length-14
 same-length-14 c = search needs
 
 returns-7 : tie.Need-returns-7
-returns-7 c = rw ((c .before .before .before .before .before .before .before .enum-told7 .given .1), ← (c .before .before .before .before .before .before .before .before .before .before .before .byte-at .ensures), ← (c .before .before .before .before .before .before .before .before .before .before .byte-at2 .ensures), ← (c .before .before .before .before .before .before .before .before .before .byte-at3 .ensures)) (c .before .before .before .before .set-lpsys-div .ensures)
+returns-7 c =
+    let after-set-lpsys-div : tie.After-set-lpsys-div = search in
+    let after-enum-told7 : tie.After-enum-told7 = search in
+    let after-byte-at3 : tie.After-byte-at3 = search in
+    let after-byte-at2 : tie.After-byte-at2 = search in
+    let after-byte-at : tie.After-byte-at = search in
+    rw (
+      (after-enum-told7 .enum-told7 .given .1),
+      ← (after-byte-at .byte-at .ensures),
+      ← (after-byte-at2 .byte-at2 .ensures),
+      ← (after-byte-at3 .byte-at3 .ensures),
+    ) (after-set-lpsys-div .set-lpsys-div .ensures)
 
 same-length-15 : tie.Need-same-length-15
 same-length-15 c = search needs
@@ -145,7 +176,12 @@ same-length-16 : tie.Need-same-length-16
 same-length-16 c = search needs
 
 returns-8 : tie.Need-returns-8
-returns-8 c = rw ((c .before .before .before .before .before .before .before .enum-told8 .given .1), ← (c .before .before .before .before .before .before .before .before .before .before .before .byte-at .ensures), ← (c .before .before .before .before .before .before .before .before .before .before .byte-at2 .ensures)) (c .before .before .before .before .config-lpsys-mac-clock .ensures)
+returns-8 c =
+    let after-config-lpsys-mac-clock : tie.After-config-lpsys-mac-clock = search in
+    let after-enum-told8 : tie.After-enum-told8 = search in
+    let after-byte-at2 : tie.After-byte-at2 = search in
+    let after-byte-at : tie.After-byte-at = search in
+    rw ((after-enum-told8 .enum-told8 .given .1), ← (after-byte-at .byte-at .ensures), ← (after-byte-at2 .byte-at2 .ensures)) (after-config-lpsys-mac-clock .config-lpsys-mac-clock .ensures)
 
 same-length-17 : tie.Need-same-length-17
 same-length-17 c = search needs
@@ -154,7 +190,11 @@ same-length-18 : tie.Need-same-length-18
 same-length-18 c = search needs
 
 returns-9 : tie.Need-returns-9
-returns-9 c = rw ((c .before .before .before .before .before .before .before .enum-told9 .given .1), ← (c .before .before .before .before .before .before .before .before .before .before .before .byte-at .ensures)) (c .before .before .before .before .select-lpsys-sysclk .ensures)
+returns-9 c =
+    let after-select-lpsys-sysclk : tie.After-select-lpsys-sysclk = search in
+    let after-enum-told9 : tie.After-enum-told9 = search in
+    let after-byte-at : tie.After-byte-at = search in
+    rw ((after-enum-told9 .enum-told9 .given .1), ← (after-byte-at .byte-at .ensures)) (after-select-lpsys-sysclk .select-lpsys-sysclk .ensures)
 
 same-length-19 : tie.Need-same-length-19
 same-length-19 c = search needs
@@ -163,7 +203,11 @@ same-length-20 : tie.Need-same-length-20
 same-length-20 c = search needs
 
 returns-10 : tie.Need-returns-10
-returns-10 c = rw ((c .before .before .before .before .before .before .before .enum-told10 .given .1), ← (c .before .before .before .before .before .before .before .before .before .before .before .byte-at .ensures)) (c .before .before .before .before .select-lpsys-peri .ensures)
+returns-10 c =
+    let after-select-lpsys-peri : tie.After-select-lpsys-peri = search in
+    let after-enum-told10 : tie.After-enum-told10 = search in
+    let after-byte-at : tie.After-byte-at = search in
+    rw ((after-enum-told10 .enum-told10 .given .1), ← (after-byte-at .byte-at .ensures)) (after-select-lpsys-peri .select-lpsys-peri .ensures)
 
 pub run-spec : {M : Type 1} → statement M
 run-spec =

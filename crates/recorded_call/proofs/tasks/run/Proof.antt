@@ -30,13 +30,23 @@ same-length c = search needs
 
 returns : tie.Need-returns
 unfolding taskIn
-returns c = rw ((c .before .before .before .before .enum-told .given .1), ← (c .before .before .before .before .before .before .before .before .byte-at .ensures), ← (c .before .before .before .before .before .before .before .four-at .ensures), ← (c .before .before .before .before .before .before .four-at2 .ensures)) (c .before .before .book .ensures)
+returns c =
+    let after-book : tie.After-book = search in
+    let after-enum-told : tie.After-enum-told = search in
+    let after-four-at2 : tie.After-four-at2 = search in
+    let after-four-at : tie.After-four-at = search in
+    let after-byte-at : tie.After-byte-at = search in
+    rw ((after-enum-told .enum-told .given .1), ← (after-byte-at .byte-at .ensures), ← (after-four-at .four-at .ensures), ← (after-four-at2 .four-at2 .ensures)) (after-book .book .ensures)
 
 same-length-2 : tie.Need-same-length-2
 same-length-2 c = search needs
 
 returns-2 : tie.Need-returns-2
-returns-2 c = rw ((c .before .before .before .before .enum-told2 .given .1), ← (c .before .before .before .before .before .before .before .before .byte-at .ensures)) (c .before .before .release .ensures)
+returns-2 c =
+    let after-release : tie.After-release = search in
+    let after-enum-told2 : tie.After-enum-told2 = search in
+    let after-byte-at : tie.After-byte-at = search in
+    rw ((after-enum-told2 .enum-told2 .given .1), ← (after-byte-at .byte-at .ensures)) (after-release .release .ensures)
 
 pub run-spec : {M : Type 1} → statement M
 run-spec =

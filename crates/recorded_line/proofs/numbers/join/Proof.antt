@@ -3,7 +3,7 @@ use Rattle.recorded_line.proofs.numbers.Joining.{joined-next, joined-al
 use lib.Seq.{take-suc-set}
 use native.Mathlib.Numerals.{add-one}
 use Prim.Native.Nat.{_+_, _/_}
-use Rattle.recorded_line.specs.numbers.{joined}
+use Rattle.recorded_line.specs.numbers.{answersIn}
 use borrow.Author.Needs.{needs}
 use native.Mathlib.Omega.{arith}
 use lib.ListN.{length, take, set, length-set}
@@ -14,13 +14,13 @@ use Rattle.recorded_line.proofs.numbers.join.Tie as tie
 
 abbrev Inv-loop : tie.InvT-loop
 Inv-loop bytes words₀ count i₀ words i =
-    (length words ≡ length words₀) × ((2 * count ≤ length bytes) × ((count ≤ length words) × ((i ≤ count) × (take i words ≡ joined (take (2 * i) bytes)))))
+    (length words ≡ length words₀) × ((2 * count ≤ length bytes) × ((count ≤ length words) × ((i ≤ count) × (take i words ≡ answersIn (take (2 * i) bytes)))))
 
 abbrev μ-loop : tie.MeasureT-loop
 μ-loop bytes words₀ count i₀ words i = count - i
 
 loop-holds : tie.Need-loop-holds Inv-loop μ-loop
-unfolding joined
+unfolding answersIn
 loop-holds c = (refl, (omega arith, (omega arith, (omega arith, refl))))
 
 mul-two-bytes : tie.Need-mul-two-bytes Inv-loop μ-loop
@@ -55,9 +55,11 @@ loop-less c = search needs
 
 loop-again : tie.Need-loop-again Inv-loop μ-loop
 loop-again c =
-    let l = c .before .before .before .before .loop in
-    let bytes = c .before .before .before .before .before .before .before .args .bytes .now in
-    let taken : take (l .i + 1) (set (l .words) (l .i) (c .two-bytes .result)) ≡ joined (take (2 * (l .i + 1)) bytes) =
+    let at-loop : tie.At-loop Inv-loop μ-loop = search in
+    let start : tie.Start Inv-loop μ-loop = search in
+    let l = at-loop .loop in
+    let bytes = start .args .bytes .now in
+    let taken : take (l .i + 1) (set (l .words) (l .i) (c .two-bytes .result)) ≡ answersIn (take (2 * (l .i + 1)) bytes) =
     rw (joined-next bytes (l .i) (omega arith), add-one (l .i), take-suc-set (l .words) (l .i) (c .two-bytes .result) (omega arith), l .inv .1 .1 .1 .1, c .two-bytes .ensures) in
     (simp length-set (omega arith), (omega arith, (simp length-set (omega arith), (omega arith, taken))))
 
@@ -66,11 +68,13 @@ same-length c = search needs
 
 returns : tie.Need-returns Inv-loop μ-loop
 returns c =
-    let l = c .before .loop in
-    let bytes = c .before .before .before .before .args .bytes .now in
+    let at-loop : tie.At-loop Inv-loop μ-loop = search in
+    let start : tie.Start Inv-loop μ-loop = search in
+    let l = at-loop .loop in
+    let bytes = start .args .bytes .now in
     let all : l .i ≡ length bytes / 2 = omega arith in
-    let rest : joined (take (2 * l .i) bytes) ≡ joined bytes = rw all (joined-all bytes) in
-    let whole : take (l .i) (l .words) ≡ joined bytes = l .inv .1 .1 .1 .1 ∙ rest in
+    let rest : answersIn (take (2 * l .i) bytes) ≡ answersIn bytes = rw all (joined-all bytes) in
+    let whole : take (l .i) (l .words) ≡ answersIn bytes = l .inv .1 .1 .1 .1 ∙ rest in
     (omega arith, rw (← all) whole)
 
 pub join-spec : {M : Type 1} → statement M

@@ -36,43 +36,57 @@ array-share-prefix-answers : tie.Need-array-share-prefix-answers
 array-share-prefix-answers c = search needs
 
 slice-aggregate-join : tie.Need-slice-aggregate-join
-slice-aggregate-join c = sym (length-take-le _ _ (omega (arith, (c .before .before .before .before .before .decode3 .ensures), (c .before .before .before .before .before .decode3 .kept .1 .1 .0))))
+slice-aggregate-join c =
+    let after-decode3 : tie.After-decode3 = search in
+    sym (length-take-le _ _ (omega (arith, (after-decode3 .decode3 .ensures), (after-decode3 .decode3 .kept .1 .1 .0))))
 
 slice-aggregate-join-2 : tie.Need-slice-aggregate-join-2
 slice-aggregate-join-2 c = search needs
 
 join-requires : tie.Need-join-requires
-join-requires c κs = simp length-take (omega (arith, (c .before .before .before .before .before .before .decode3 .ensures)))
+join-requires c κs =
+    let after-decode3 : tie.After-decode3 = search in
+    simp length-take (omega (arith, (after-decode3 .decode3 .ensures)))
 
 array-share-prefix-argument : tie.Need-array-share-prefix-argument
 array-share-prefix-argument c = search needs
 
 slice-aggregate-run-line : tie.Need-slice-aggregate-run-line
-slice-aggregate-run-line c = sym (length-take-le _ _ (omega (arith, (c .before .before .before .before .before .before .before .before .before .before .before .before .before .before .before .decode .ensures), (c .before .before .before .before .before .before .before .before .before .before .before .before .before .before .before .decode .kept .1 .1 .0))))
+slice-aggregate-run-line c =
+    let after-decode : tie.After-decode = search in
+    sym (length-take-le _ _ (omega (arith, (after-decode .decode .ensures), (after-decode .decode .kept .1 .1 .0))))
 
 array-share-prefix-buffer : tie.Need-array-share-prefix-buffer
 array-share-prefix-buffer c = search needs
 
 slice-aggregate-run-line-2 : tie.Need-slice-aggregate-run-line-2
-slice-aggregate-run-line-2 c = sym (length-take-le _ _ (omega (arith, (c .before .before .before .before .before .before .before .before .before .before .before .before .before .decode2 .ensures), (c .before .before .before .before .before .before .before .before .before .before .before .before .before .decode2 .kept .1 .1 .0))))
+slice-aggregate-run-line-2 c =
+    let after-decode2 : tie.After-decode2 = search in
+    sym (length-take-le _ _ (omega (arith, (after-decode2 .decode2 .ensures), (after-decode2 .decode2 .kept .1 .1 .0))))
 
 array-borrow-prefix-left : tie.Need-array-borrow-prefix-left
 array-borrow-prefix-left c = search needs
 
 slice-aggregate-run-line-3 : tie.Need-slice-aggregate-run-line-3
-slice-aggregate-run-line-3 c = sym (length-take-le _ _ (omega (arith, (c .before .before .before .before .before .before .before .before .before .before .before .before .before .before .decode2 .ensures), (c .before .before .before .before .before .before .before .before .before .before .before .before .before .before .decode2 .kept .1 .1 .0))))
+slice-aggregate-run-line-3 c =
+    let after-decode2 : tie.After-decode2 = search in
+    sym (length-take-le _ _ (omega (arith, (after-decode2 .decode2 .ensures), (after-decode2 .decode2 .kept .1 .1 .0))))
 
 array-share-prefix-answers-2 : tie.Need-array-share-prefix-answers-2
 array-share-prefix-answers-2 c = search needs
 
 slice-aggregate-run-line-4 : tie.Need-slice-aggregate-run-line-4
-slice-aggregate-run-line-4 c = sym (length-take-le _ _ (omega (arith, (c .before .before .before .before .before .before .before .before .before .before .before .before .decode3 .ensures), (c .before .before .before .before .before .before .before .before .before .before .before .before .decode3 .kept .1 .1 .0))))
+slice-aggregate-run-line-4 c =
+    let after-decode3 : tie.After-decode3 = search in
+    sym (length-take-le _ _ (omega (arith, (after-decode3 .decode3 .ensures), (after-decode3 .decode3 .kept .1 .1 .0))))
 
 array-share-prefix-words : tie.Need-array-share-prefix-words
 array-share-prefix-words c = search needs
 
 slice-aggregate-run-line-5 : tie.Need-slice-aggregate-run-line-5
-slice-aggregate-run-line-5 c = sym (length-take-le _ _ (omega (arith, (c .before .before .before .before .before .before .join .ensures), (c .before .before .before .before .before .before .join .kept .1 .0))))
+slice-aggregate-run-line-5 c =
+    let after-join : tie.After-join = search in
+    sym (length-take-le _ _ (omega (arith, (after-join .join .ensures), (after-join .join .kept .1 .0))))
 
 slice-aggregate-clocks-in : tie.Need-slice-aggregate-clocks-in
 slice-aggregate-clocks-in c = search needs
@@ -88,8 +102,10 @@ same-length c = search needs
 
 returns : tie.Need-returns
 returns c =
-    let run = c .before .before .before .run-line in
-    (run .ensures .0, λ e. record { argument = _; buffer = _; answers = _; former = c .before .before .before .before .before .clocks-in .result; line-is = run .ensures .1 e })
+    let after-run-line : tie.After-run-line = search in
+    let after-clocks-in : tie.After-clocks-in = search in
+    let run = after-run-line .run-line in
+    (run .ensures .0, λ e. record { argument = _; buffer = _; answers = _; former = after-clocks-in .clocks-in .result; line-is = run .ensures .1 e })
 
 pub call-line-spec : {M : Type 1} → statement M
 call-line-spec =

@@ -36,8 +36,14 @@ same-length-2 c = search needs
 
 returns : tie.Need-returns
 returns c =
-    let args = c .before .before .before .before .before .before .before .before .before .before .before .before .before .before .args in
-    rw (c .before .before .before .before .before .before .before .before .call .given .1) ((c .before .before .before .before .run .ensures), (refl, within (c .before .before .before .before .run .ensures) (lpsys.result-within (c .before .before .before .before .before .before .before .before .call .given .0 .0) (args .argument .now) (args .buffer .now) (args .journal .now) (args .answers .now))))
+    let after-run : tie.After-run = search in
+    let after-call : tie.After-call = search in
+    let start : tie.Start = search in
+    let args = start .args in
+    rw (after-call .call .given .1) (
+      (after-run .run .ensures),
+      (refl, within (after-run .run .ensures) (lpsys.result-within (after-call .call .given .0 .0) (args .argument .now) (args .buffer .now) (args .journal .now) (args .answers .now))),
+    )
 
 same-length-3 : tie.Need-same-length-3
 same-length-3 c = search needs
@@ -47,16 +53,31 @@ same-length-4 c = search needs
 
 returns-2 : tie.Need-returns-2
 returns-2 c =
-    let args = c .before .before .before .before .before .before .before .before .before .before .before .before .before .before .before .args in
-    rw (c .before .before .before .before .before .before .before .before .before .call2 .given .1) ((c .before .before .before .before .run2 .ensures .0), ((c .before .before .before .before .run2 .ensures .1), within (c .before .before .before .before .run2 .ensures .0) (config.result-within (c .before .before .before .before .before .before .before .before .before .call2 .given .0 .0) (args .argument .now) (args .buffer .now) (args .journal .now) (args .answers .now))))
+    let after-run2 : tie.After-run2 = search in
+    let after-call2 : tie.After-call2 = search in
+    let start : tie.Start = search in
+    let args = start .args in
+    rw (after-call2 .call2 .given .1) (
+      (after-run2 .run2 .ensures .0),
+      (
+        (after-run2 .run2 .ensures .1),
+        within (after-run2 .run2 .ensures .0) (config.result-within (after-call2 .call2 .given .0 .0) (args .argument .now) (args .buffer .now) (args .journal .now) (args .answers .now)),
+      ),
+    )
 
 same-length-5 : tie.Need-same-length-5
 same-length-5 c = search needs
 
 returns-3 : tie.Need-returns-3
 returns-3 c =
-    let args = c .before .before .before .before .before .before .before .before .before .before .before .args in
-    rw (c .before .before .before .before .before .call3 .given .1) (beside-answers (args .journal .now) (c .before .before .run3 .ensures), (refl, beside-within (args .journal .now) (c .before .before .run3 .ensures) (tasks.result-within (c .before .before .before .before .before .call3 .given .0 .0) (args .argument .now) (args .buffer .now))))
+    let after-run3 : tie.After-run3 = search in
+    let after-call3 : tie.After-call3 = search in
+    let start : tie.Start = search in
+    let args = start .args in
+    rw (after-call3 .call3 .given .1) (
+      beside-answers (args .journal .now) (after-run3 .run3 .ensures),
+      (refl, beside-within (args .journal .now) (after-run3 .run3 .ensures) (tasks.result-within (after-call3 .call3 .given .0 .0) (args .argument .now) (args .buffer .now))),
+    )
 
 pub run-spec : {M : Type 1} → statement M
 run-spec =

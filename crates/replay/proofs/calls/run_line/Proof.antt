@@ -19,7 +19,10 @@ slice-aggregate-compare c = search needs
 
 compare-requires : tie.Need-compare-requires
 compare-requires c κs =
-    (c .before .before .before .before .before .before .before .run .ensures .1 .1, rw (c .before .before .before .lent-clocks .ensures) (shown-most (c .before .before .before .before .before .before .before .before .before .before .before .before .before .before .before .before .before .before .before .args .call)))
+    let start : tie.Start = search in
+    let after-lent-clocks : tie.After-lent-clocks = search in
+    let after-run : tie.After-run = search in
+    (after-run .run .ensures .1 .1, rw (after-lent-clocks .lent-clocks .ensures) (shown-most (start .args .call)))
 
 same-length : tie.Need-same-length
 same-length c = search needs
@@ -29,11 +32,15 @@ same-length-2 c = search needs
 
 returns : tie.Need-returns
 returns c =
-    let start = c .before .before .before .before .before .before .before .before .before .before .before .before .before .before .before .before .before .before .before .before .before .before in
+    let start : tie.Start = search in
+    let after-compare : tie.After-compare = search in
+    let after-lent-clocks : tie.After-lent-clocks = search in
+    let after-run : tie.After-run = search in
     let args = start .args in
-    let run = c .before .before .before .before .before .before .before .before .before .before .run in
-    let compare = c .before .before .compare in
-    let line = line-is (args .call) (args .name .now) (args .argument .now) (args .buffer .now) (args .answers .now) (args .former) (args .words .now) _ _ _ _ _ (run .result) (start .pre .0) (start .pre .1) (c .before .before .before .before .before .before .lent-clocks .ensures) (run .ensures .0) (run .ensures .1 .0) in
+    let run = after-run .run in
+    let compare = after-compare .compare in
+    let is = line-is (args .call) (args .name .now) (args .argument .now) (args .buffer .now) (args .answers .now) (args .former) (args .words .now) _ _ _ _ _ (run .result) in
+    let line = is (start .pre .0) (start .pre .1) (after-lent-clocks .lent-clocks .ensures) (run .ensures .0) (run .ensures .1 .0) in
     (compare .ensures .0, λ e. compare .ensures .1 e ∙ line)
 
 pub run-line-spec : {M : Type 1} → statement M

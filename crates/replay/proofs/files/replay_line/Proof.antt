@@ -20,13 +20,22 @@ enum-known-from : tie.Need-enum-known-from
 enum-known-from c = search needs
 
 sub-different : tie.Need-sub-different
-sub-different c = omega (arith, rw (c .before .before .before .from .given .1) at (c .before .before .before .before .before .before .compare .ensures), (c .before .before .before .before .before .before .compare .kept .1 .1 .1 .0))
+sub-different c =
+    let after-from : tie.After-from = search in
+    let after-compare : tie.After-compare = search in
+    omega (arith, rw (after-from .from .given .1) at (after-compare .compare .ensures), (after-compare .compare .kept .1 .1 .1 .0))
 
 part-different-start : tie.Need-part-different-start
-part-different-start c = omega (arith, rw (c .before .before .before .before .from .given .1) at (c .before .before .before .before .before .before .before .compare .ensures), (c .before .before .before .before .before .before .before .compare .kept .1 .1 .1 .0))
+part-different-start c =
+    let after-from : tie.After-from = search in
+    let after-compare : tie.After-compare = search in
+    omega (arith, rw (after-from .from .given .1) at (after-compare .compare .ensures), (after-compare .compare .kept .1 .1 .1 .0))
 
 part-different-end : tie.Need-part-different-end
-part-different-end c = omega (arith, rw (c .before .before .before .before .from .given .1) at (c .before .before .before .before .before .before .before .compare .ensures), (c .before .before .before .before .before .before .before .compare .kept .1 .1 .1 .0))
+part-different-end c =
+    let after-from : tie.After-from = search in
+    let after-compare : tie.After-compare = search in
+    omega (arith, rw (after-from .from .given .1) at (after-compare .compare .ensures), (after-compare .compare .kept .1 .1 .1 .0))
 
 different-requires : tie.Need-different-requires
 different-requires c κs = tt

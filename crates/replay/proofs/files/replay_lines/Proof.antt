@@ -61,13 +61,17 @@ enum-known-length c = search needs
 
 array-share-prefix-line : tie.Need-array-share-prefix-line Inv-loop μ-loop
 array-share-prefix-line c =
-    let next = c .before .before .before .before .before .next-line in
-    omega (arith, rw (c .before .length .given .1) at (next .ensures))
+    let after-length : tie.After-length Inv-loop μ-loop = search in
+    let after-next-line : tie.After-next-line Inv-loop μ-loop = search in
+    let next = after-next-line .next-line in
+    omega (arith, rw (after-length .length .given .1) at (next .ensures))
 
 slice-aggregate-replay-line : tie.Need-slice-aggregate-replay-line Inv-loop μ-loop
 slice-aggregate-replay-line c =
-    let next = c .before .before .before .before .before .before .next-line in
-    sym (length-take-le _ _ (omega (arith, rw (c .before .before .length .given .1) at (next .ensures))))
+    let after-length : tie.After-length Inv-loop μ-loop = search in
+    let after-next-line : tie.After-next-line Inv-loop μ-loop = search in
+    let next = after-next-line .next-line in
+    sym (length-take-le _ _ (omega (arith, rw (after-length .length .given .1) at (next .ensures))))
 
 replay-line-requires : tie.Need-replay-line-requires Inv-loop μ-loop
 replay-line-requires c κs = tt
@@ -77,9 +81,12 @@ loop-less c = search needs
 
 loop-again : tie.Need-loop-again Inv-loop μ-loop
 loop-again c =
-    let next = c .before .before .before .before .before .before .before .next-line in
-    let inv = c .before .before .before .before .before .before .before .before .before .before .before .loop .inv in
-    omega (arith, rw (c .before .before .before .length .given .1) at (next .ensures), inv)
+    let after-length : tie.After-length Inv-loop μ-loop = search in
+    let after-next-line : tie.After-next-line Inv-loop μ-loop = search in
+    let at-loop : tie.At-loop Inv-loop μ-loop = search in
+    let next = after-next-line .next-line in
+    let inv = at-loop .loop .inv in
+    omega (arith, rw (after-length .length .given .1) at (next .ensures), inv)
 
 returns-3 : tie.Need-returns-3 Inv-loop μ-loop
 returns-3 c = tt

@@ -37,25 +37,38 @@ same-length : tie.Need-same-length
 same-length c = search needs
 
 returns : tie.Need-returns
-returns c = rw (c .before .before .before .before .before .enum-told .given .1, ← c .before .before .before .before .check .ensures) (c .before .before .put-after-blank .ensures)
+returns c =
+    let after-put-after-blank : tie.After-put-after-blank = search in
+    let after-check : tie.After-check = search in
+    let after-enum-told : tie.After-enum-told = search in
+    rw (after-enum-told .enum-told .given .1, ← after-check .check .ensures) (after-put-after-blank .put-after-blank .ensures)
 
 same-length-2 : tie.Need-same-length-2
 same-length-2 c = search needs
 
 returns-2 : tie.Need-returns-2
-returns-2 c = rw (c .before .before .before .before .enum-told2 .given .1) (c .before .before .put-clocks .ensures)
+returns-2 c =
+    let after-put-clocks : tie.After-put-clocks = search in
+    let after-enum-told2 : tie.After-enum-told2 = search in
+    rw (after-enum-told2 .enum-told2 .given .1) (after-put-clocks .put-clocks .ensures)
 
 same-length-3 : tie.Need-same-length-3
 same-length-3 c = search needs
 
 returns-3 : tie.Need-returns-3
-returns-3 c = rw (c .before .before .before .before .enum-told3 .given .1) (c .before .before .put-lpsys .ensures)
+returns-3 c =
+    let after-put-lpsys : tie.After-put-lpsys = search in
+    let after-enum-told3 : tie.After-enum-told3 = search in
+    rw (after-enum-told3 .enum-told3 .given .1) (after-put-lpsys .put-lpsys .ensures)
 
 same-length-4 : tie.Need-same-length-4
 same-length-4 c = search needs
 
 returns-4 : tie.Need-returns-4
-returns-4 c = rw (c .before .before .before .before .enum-told4 .given .1) (c .before .before .put-load .ensures)
+returns-4 c =
+    let after-put-load : tie.After-put-load = search in
+    let after-enum-told4 : tie.After-enum-told4 = search in
+    rw (after-enum-told4 .enum-told4 .given .1) (after-put-load .put-load .ensures)
 
 pub put-answer-spec : {M : Type 1} → statement M
 put-answer-spec =

@@ -15,7 +15,10 @@ put-after-blank-requires : tie.Need-put-after-blank-requires
 put-after-blank-requires c κs = search needs
 
 slice-aggregate-put-words : tie.Need-slice-aggregate-put-words
-slice-aggregate-put-words c = rw (c .before .before .before .before .before .read-clocks .ensures .1) (clocks-15 (c .before .before .before .before .before .before .before .before .before .args .head .now))
+slice-aggregate-put-words c =
+    let read : tie.After-read-clocks = search in
+    let start : tie.Start = search in
+    rw (read .read-clocks .ensures .1) (clocks-15 (start .args .head .now))
 
 put-words-requires : tie.Need-put-words-requires
 put-words-requires c κs = search needs
@@ -24,7 +27,11 @@ same-length : tie.Need-same-length
 same-length c = search needs
 
 returns : tie.Need-returns
-returns c = puts-both (c .before .before .before .before .before .before .before .before .before .read-clocks .ensures .0) (c .before .before .before .before .before .before .before .before .before .read-clocks .ensures .1) (c .before .before .before .before .before .before .before .put-after-blank .ensures) (c .before .before .put-words .ensures) (omega arith)
+returns c =
+    let words : tie.After-put-words = search in
+    let number : tie.After-put-after-blank = search in
+    let read : tie.After-read-clocks = search in
+    puts-both (read .read-clocks .ensures .0) (read .read-clocks .ensures .1) (number .put-after-blank .ensures) (words .put-words .ensures) (omega arith)
 
 pub put-clocks-spec : {M : Type 1} → statement M
 put-clocks-spec =

@@ -46,9 +46,12 @@ same-length c = search needs
 
 returns : tie.Need-returns
 returns c =
-    let front = puts-then (c .before .before .before .before .before .before .before .before .before .before .before .before .before .before .before .put .ensures) (c .before .before .before .before .before .before .before .before .before .before .put-bytes .ensures) (omega arith) in (
-      rw ((c .before .before .before .before .before .put-answer .kept .1 .1 .0), (c .before .before .before .before .before .before .before .before .before .before .put-bytes .kept .1 .0), (c .before .before .before .before .before .before .before .before .before .before .before .before .before .before .before .put .kept .1 .0)) at (c .compare .ensures .0),
-      λ e. record { read = _; line-is = same-line front (c .before .before .before .before .before .put-answer .ensures) ((c .compare .ensures .1) e) (omega arith) (omega arith) },
+    let after-put-answer : tie.After-put-answer = search in
+    let after-put-bytes : tie.After-put-bytes = search in
+    let after-put : tie.After-put = search in
+    let front = puts-then (after-put .put .ensures) (after-put-bytes .put-bytes .ensures) (omega arith) in (
+      rw ((after-put-answer .put-answer .kept .1 .1 .0), (after-put-bytes .put-bytes .kept .1 .0), (after-put .put .kept .1 .0)) at (c .compare .ensures .0),
+      λ e. record { read = _; line-is = same-line front (after-put-answer .put-answer .ensures) ((c .compare .ensures .1) e) (omega arith) (omega arith) },
     )
 
 pub reading-line-spec : {M : Type 1} → statement M

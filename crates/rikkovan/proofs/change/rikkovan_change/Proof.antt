@@ -17,7 +17,9 @@ same-length-2 : tie.Need-same-length-2
 same-length-2 c = search needs
 
 returns : tie.Need-returns
-returns c = gives (c .before .before .before .before .before .change .ensures) (c .of-answer .ensures)
+returns c =
+    let after-change : tie.After-change = search in
+    gives (after-change .change .ensures) (c .of-answer .ensures)
 
 pub rikkovan-change-spec : {M : Type 1} → statement M
 rikkovan-change-spec =

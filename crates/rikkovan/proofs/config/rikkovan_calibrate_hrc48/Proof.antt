@@ -17,7 +17,9 @@ same-length-2 : tie.Need-same-length-2
 same-length-2 c = search needs
 
 returns : tie.Need-returns
-returns c = gives (c .before .before .before .before .before .calibrate-hrc48 .ensures) (c .of-answer .ensures)
+returns c =
+    let after-calibrate-hrc48 : tie.After-calibrate-hrc48 = search in
+    gives (after-calibrate-hrc48 .calibrate-hrc48 .ensures) (c .of-answer .ensures)
 
 pub rikkovan-calibrate-hrc48-spec : {M : Type 1} → statement M
 rikkovan-calibrate-hrc48-spec =

@@ -17,7 +17,9 @@ same-length-2 : tie.Need-same-length-2
 same-length-2 c = search needs
 
 returns : tie.Need-returns
-returns c = (gives (c .before .before .before .before .before .init .ensures .0) (c .of-answer .ensures), c .before .before .before .before .before .init .ensures .1)
+returns c =
+    let after-init : tie.After-init = search in
+    (gives (after-init .init .ensures .0) (c .of-answer .ensures), after-init .init .ensures .1)
 
 pub rikkovan-init-spec : {M : Type 1} → statement M
 rikkovan-init-spec =

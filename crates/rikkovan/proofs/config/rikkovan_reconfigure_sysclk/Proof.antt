@@ -17,7 +17,9 @@ same-length-2 : tie.Need-same-length-2
 same-length-2 c = search needs
 
 returns : tie.Need-returns
-returns c = (gives (c .before .before .before .before .before .reconfigure-sysclk .ensures .0) (c .of-answer .ensures), c .before .before .before .before .before .reconfigure-sysclk .ensures .1)
+returns c =
+    let after-reconfigure-sysclk : tie.After-reconfigure-sysclk = search in
+    (gives (after-reconfigure-sysclk .reconfigure-sysclk .ensures .0) (c .of-answer .ensures), after-reconfigure-sysclk .reconfigure-sysclk .ensures .1)
 
 pub rikkovan-reconfigure-sysclk-spec : {M : Type 1} → statement M
 rikkovan-reconfigure-sysclk-spec =

@@ -17,7 +17,9 @@ same-length-2 : tie.Need-same-length-2
 same-length-2 c = search needs
 
 returns : tie.Need-returns
-returns c = gives (c .before .before .before .before .before .cancel-lcpu-active-request .ensures) (c .of-answer .ensures)
+returns c =
+    let after-cancel-lcpu-active-request : tie.After-cancel-lcpu-active-request = search in
+    gives (after-cancel-lcpu-active-request .cancel-lcpu-active-request .ensures) (c .of-answer .ensures)
 
 pub rikkovan-cancel-lcpu-active-request-spec : {M : Type 1} → statement M
 rikkovan-cancel-lcpu-active-request-spec =

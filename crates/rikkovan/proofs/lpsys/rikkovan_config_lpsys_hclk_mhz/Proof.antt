@@ -17,7 +17,9 @@ same-length-2 : tie.Need-same-length-2
 same-length-2 c = search needs
 
 returns : tie.Need-returns
-returns c = gives (c .before .before .before .before .before .config-lpsys-hclk-mhz .ensures) (c .of-answer .ensures)
+returns c =
+    let after-config-lpsys-hclk-mhz : tie.After-config-lpsys-hclk-mhz = search in
+    gives (after-config-lpsys-hclk-mhz .config-lpsys-hclk-mhz .ensures) (c .of-answer .ensures)
 
 pub rikkovan-config-lpsys-hclk-mhz-spec : {M : Type 1} → statement M
 rikkovan-config-lpsys-hclk-mhz-spec =

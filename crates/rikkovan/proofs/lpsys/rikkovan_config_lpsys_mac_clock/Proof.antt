@@ -17,7 +17,9 @@ same-length-2 : tie.Need-same-length-2
 same-length-2 c = search needs
 
 returns : tie.Need-returns
-returns c = gives (c .before .before .before .before .before .config-lpsys-mac-clock .ensures) (c .of-answer .ensures)
+returns c =
+    let after-config-lpsys-mac-clock : tie.After-config-lpsys-mac-clock = search in
+    gives (after-config-lpsys-mac-clock .config-lpsys-mac-clock .ensures) (c .of-answer .ensures)
 
 pub rikkovan-config-lpsys-mac-clock-spec : {M : Type 1} → statement M
 rikkovan-config-lpsys-mac-clock-spec =

@@ -17,7 +17,9 @@ same-length-2 : tie.Need-same-length-2
 same-length-2 c = search needs
 
 returns : tie.Need-returns
-returns c = gives (c .before .before .before .before .before .ensure-hxt48-ready .ensures) (c .of-answer .ensures)
+returns c =
+    let after-ensure-hxt48-ready : tie.After-ensure-hxt48-ready = search in
+    gives (after-ensure-hxt48-ready .ensure-hxt48-ready .ensures) (c .of-answer .ensures)
 
 pub rikkovan-ensure-hxt48-ready-spec : {M : Type 1} → statement M
 rikkovan-ensure-hxt48-ready-spec =

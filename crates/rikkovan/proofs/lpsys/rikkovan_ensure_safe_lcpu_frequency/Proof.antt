@@ -17,7 +17,9 @@ same-length-2 : tie.Need-same-length-2
 same-length-2 c = search needs
 
 returns : tie.Need-returns
-returns c = gives (c .before .before .before .before .before .ensure-safe-lcpu-frequency .ensures) (c .of-answer .ensures)
+returns c =
+    let after-ensure-safe-lcpu-frequency : tie.After-ensure-safe-lcpu-frequency = search in
+    gives (after-ensure-safe-lcpu-frequency .ensure-safe-lcpu-frequency .ensures) (c .of-answer .ensures)
 
 pub rikkovan-ensure-safe-lcpu-frequency-spec : {M : Type 1} → statement M
 rikkovan-ensure-safe-lcpu-frequency-spec =

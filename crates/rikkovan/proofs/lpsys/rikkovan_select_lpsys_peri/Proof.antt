@@ -17,7 +17,9 @@ same-length-2 : tie.Need-same-length-2
 same-length-2 c = search needs
 
 returns : tie.Need-returns
-returns c = gives (c .before .before .before .before .before .select-lpsys-peri .ensures) (c .of-answer .ensures)
+returns c =
+    let after-select-lpsys-peri : tie.After-select-lpsys-peri = search in
+    gives (after-select-lpsys-peri .select-lpsys-peri .ensures) (c .of-answer .ensures)
 
 pub rikkovan-select-lpsys-peri-spec : {M : Type 1} → statement M
 rikkovan-select-lpsys-peri-spec =

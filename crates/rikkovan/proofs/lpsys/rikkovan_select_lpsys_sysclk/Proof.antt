@@ -17,7 +17,9 @@ same-length-2 : tie.Need-same-length-2
 same-length-2 c = search needs
 
 returns : tie.Need-returns
-returns c = gives (c .before .before .before .before .before .select-lpsys-sysclk .ensures) (c .of-answer .ensures)
+returns c =
+    let after-select-lpsys-sysclk : tie.After-select-lpsys-sysclk = search in
+    gives (after-select-lpsys-sysclk .select-lpsys-sysclk .ensures) (c .of-answer .ensures)
 
 pub rikkovan-select-lpsys-sysclk-spec : {M : Type 1} → statement M
 rikkovan-select-lpsys-sysclk-spec =

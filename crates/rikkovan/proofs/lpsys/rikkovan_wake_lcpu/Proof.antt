@@ -17,7 +17,9 @@ same-length-2 : tie.Need-same-length-2
 same-length-2 c = search needs
 
 returns : tie.Need-returns
-returns c = gives (c .before .before .before .before .before .wake-lcpu .ensures) (c .of-answer .ensures)
+returns c =
+    let after-wake-lcpu : tie.After-wake-lcpu = search in
+    gives (after-wake-lcpu .wake-lcpu .ensures) (c .of-answer .ensures)
 
 pub rikkovan-wake-lcpu-spec : {M : Type 1} → statement M
 rikkovan-wake-lcpu-spec =

@@ -14,7 +14,9 @@ same-length : tie.Need-same-length
 same-length c = search needs
 
 returns : tie.Need-returns
-returns c = gives (c .before .before .before .book .ensures) (c .of-answer .ensures)
+returns c =
+    let after-book : tie.After-book = search in
+    gives (after-book .book .ensures) (c .of-answer .ensures)
 
 pub rikkovan-book-spec : {M : Type 1} → statement M
 rikkovan-book-spec = tie.close (tie.spec book-requires of-answer-requires same-length returns)

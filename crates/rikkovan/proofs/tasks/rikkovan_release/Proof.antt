@@ -14,7 +14,9 @@ same-length : tie.Need-same-length
 same-length c = search needs
 
 returns : tie.Need-returns
-returns c = gives (c .before .before .before .release .ensures) (c .of-answer .ensures)
+returns c =
+    let after-release : tie.After-release = search in
+    gives (after-release .release .ensures) (c .of-answer .ensures)
 
 pub rikkovan-release-spec : {M : Type 1} → statement M
 rikkovan-release-spec = tie.close (tie.spec release-requires of-answer-requires same-length returns)

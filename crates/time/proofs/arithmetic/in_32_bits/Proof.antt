@@ -11,11 +11,15 @@ cast-t4 c = search needs
 
 returns : tie.Need-returns
 unfolding exact
-returns c = simp (lt-ltb (c .before .args .hertz) 4294967296 (omega (arith, c .if1 .taken)))
+returns c =
+    let start : tie.Start = search in
+    simp (lt-ltb (start .args .hertz) 4294967296 (omega (arith, c .if1 .taken)))
 
 returns-2 : tie.Need-returns-2
 unfolding exact
-returns-2 c = simp (le-ltb (c .before .args .hertz) 4294967296 (omega (arith, c .if1 .left)))
+returns-2 c =
+    let start : tie.Start = search in
+    simp (le-ltb (start .args .hertz) 4294967296 (omega (arith, c .if1 .left)))
 
 pub in-32-bits-spec : {M : Type 1} → statement M
 in-32-bits-spec = tie.close (tie.spec cast-t4 returns returns-2)

@@ -10,11 +10,15 @@ returns c = simp (le-leb _ _ (c .if1 .taken))
 
 returns-2 : tie.Need-returns-2
 unfolding lpsysModeOf
-returns-2 c = simp (lt-leb _ _ (c .before .if1 .left), le-leb _ _ (c .if2 .taken))
+returns-2 c =
+    let else1 : tie.Else1 = search in
+    simp (lt-leb _ _ (else1 .if1 .left), le-leb _ _ (c .if2 .taken))
 
 returns-3 : tie.Need-returns-3
 unfolding lpsysModeOf
-returns-3 c = simp (lt-leb _ _ (c .before .if1 .left), lt-leb _ _ (c .if2 .left))
+returns-3 c =
+    let else1 : tie.Else1 = search in
+    simp (lt-leb _ _ (else1 .if1 .left), lt-leb _ _ (c .if2 .left))
 
 pub from-frequency-spec : {M : Type 1} → statement M
 from-frequency-spec = tie.close (tie.spec returns returns-2 returns-3)

@@ -14,7 +14,10 @@ array-copy-out-result : tie.Need-array-copy-out-result
 array-copy-out-result c = search needs
 
 returns : tie.Need-returns
-returns c = simp (c .before .number .ensures .0) (lpsys-row-at (c .before .before .args .self) _)
+returns c =
+    let after-number : tie.After-number = search in
+    let start : tie.Start = search in
+    simp (after-number .number .ensures .0) (lpsys-row-at (start .args .self) _)
 
 pub get-config-spec : {M : Type 1} → statement M
 get-config-spec = tie.close (tie.spec number-requires mul-result array-copy-out-result returns)

@@ -1,7 +1,7 @@
--- `load::check::Checked::word` meets its contract: the test says which case of `wordOf` holds. Assumes nothing.
+-- `load::check::Checked::word` meets its contract: the test says which case of `checkWord` holds. Assumes nothing.
 use borrow.Author.Needs.{needs}
 use borrow.Author.Tests.{eq-eqb, ne-eqb}
-use Rattle.load.specs.check.{wordOf}
+use Rattle.load.specs.check.{checkWord}
 use Rattle.load.proofs.check.Checked.word.Statement.{statement}
 use Rattle.load.proofs.check.Checked.word.Tie as tie
 
@@ -12,13 +12,13 @@ add-result : tie.Need-add-result
 add-result c = search needs
 
 returns : tie.Need-returns
-unfolding wordOf
+unfolding checkWord
 returns c =
     let then1 : tie.Then1 = search in
     simp (ne-eqb _ _ (then1 .if1 .taken))
 
 returns-2 : tie.Need-returns-2
-unfolding wordOf
+unfolding checkWord
 returns-2 c = simp (eq-eqb _ _ (c .if1 .left))
 
 pub word-spec : {M : Type 1} → statement M

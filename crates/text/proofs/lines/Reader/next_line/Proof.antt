@@ -59,7 +59,9 @@ loop-less : tie.Need-loop-less Inv-loop μ-loop
 loop-less c = simp L.length-set (omega arith)
 
 loop-again : tie.Need-loop-again Inv-loop μ-loop
-loop-again c = simp L.length-set (omega (arith, c .before .before .before .before .before .before .filled .kept .1 .0))
+loop-again c =
+    let after-filled : tie.After-filled Inv-loop μ-loop = search in
+    simp L.length-set (omega (arith, after-filled .filled .kept .1 .0))
 
 same-length-5 : tie.Need-same-length-5 Inv-loop μ-loop
 same-length-5 c = search needs
