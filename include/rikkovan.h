@@ -933,8 +933,9 @@ uint64_t rikkovan_release(uint8_t *head, size_t head_len, uint8_t id);
  * One that no test refuses before its first store is done where the plan has no DLL1 or one of the
  * answers is ready, and refused with RIKKOVAN_REFUSED_ANSWERS_RAN_OUT otherwise. Before the first
  * entry and after each one HCLK reads and is at most the rail limit, and no flash is on a DLL that
- * is off. So the head is fit again, done or refused, and stays fit as long as nothing but
- * rikkovan_change, rikkovan_book, rikkovan_release and rikkovan_config_lpsys_hclk_mhz changes it.
+ * is off. So a head that was fit is fit again, done or refused, and stays fit as long as nothing
+ * but rikkovan_change, rikkovan_book, rikkovan_release and rikkovan_config_lpsys_hclk_mhz changes
+ * it; one that was not is refused, and stays as it was.
  *
  * Refusals, in this order: RIKKOVAN_REFUSED_JOURNAL, RIKKOVAN_REFUSED_ANSWERS, the head's, the
  * plan's (1 to 14), RIKKOVAN_REFUSED_UNFIT, RIKKOVAN_REFUSED_OSCILLATOR, and RIKKOVAN_REFUSED_LOAD
