@@ -53,7 +53,8 @@ module _ (pb b j a : List ℕ) {o : Admitted} (x : Admits (answersTests b j a) b
           m₀ ≡ machineOf (begin (o .head)) → Ran (F (q .plan)) m₀ m j j' → Finishes m v r b b' → cs ≡ cond (eqb (m .stop) 0) (G (m .head)) ys →
           Leaves (planCall (F (planOf pb)) v pb b j a) r b' j' cs (G (headAfter (F (planOf pb)) b)) ys
       plan-ran F v b' j' m₀ m r cs ys G s ran fin e =
-          let answers = call-ran x (lentPlanTests pb) (F (planOf pb)) v j b' j' m₀ m r z (only-test _ ∙ (sym (y .refusal-is) ∙ w)) s (subst (λ (p : Plan). Ran (F p) m₀ m j j') (y .plan-is w) ran) fin in
+          let passed = only-test _ ∙ (sym (y .refusal-is) ∙ w) in
+          let answers = call-ran x (lentPlanTests pb) (F (planOf pb)) v j b' j' m₀ m r z passed s (subst (λ (p : Plan). Ran (F p) m₀ m j j') (y .plan-is w) ran) fin in
           let after = ap (λ (k : Machine). k .head) (ran .does (begin (o .head)) j (record { machine = s; journal = refl }) .machine) ∙ of-bytes (λ (p : Plan) (h : Head). F p (begin h) .head) in (
             answers,
             e ∙ (ap (λ (h : Head). cond (eqb (m .stop) 0) (G h) ys) after ∙ ap (λ (n : ℕ). cond (eqb n 0) (G (headAfter (F (planOf pb)) b)) ys) (sym (fin .refusal) ∙ answers .refusal)),
