@@ -32,7 +32,7 @@ PLANS = $(sort $(wildcard examples/plans/*.plan))
 TASKS = $(sort $(wildcard examples/tasks/*.tasks))
 
 .DELETE_ON_ERROR:
-.PHONY: help lib run test measure spec test-c test-rust test-programs test-fuzz fuzz test-oracle oracle compare compare-quick compare-plans compare-heads evidence record bench plans tasks heads install uninstall clean
+.PHONY: help lib run test measure contracts spec test-c test-rust test-programs test-fuzz fuzz test-oracle oracle compare compare-quick compare-plans compare-heads evidence record bench plans tasks heads install uninstall clean
 
 help:
 	@echo 'make run            prove the library, then check the example plans and tasks through it'
@@ -48,6 +48,7 @@ help:
 	@echo 'make evidence       write docs/EVIDENCE.md anew from such a comparison'
 	@echo 'make record         write crates/replay/data anew from the Rust'
 	@echo 'make bench          measure every call beside the Rust'
+	@echo 'make contracts      write the tables of docs/CONTRACTS.md anew from the sources'
 	@echo 'make spec           write target/spec.md: every definition that the exports and the claim stand on'
 	@echo 'make measure        the whole test, with the time and memory of each crate and edit'
 	@echo 'make plans          write examples/plans anew (make tasks, make heads: the others)'
@@ -77,6 +78,9 @@ run: build/daemon target/bin/moments
 
 test:
 	@tools/test.sh
+
+contracts:
+	@tools/contracts.py
 
 spec:
 	@tools/spec.sh

@@ -53,6 +53,10 @@ every_crate_is_listed() {
     return "$unlisted"
 }
 
+contracts_are_made() {
+    ! command -v python3 >/dev/null || tools/contracts.py --check
+}
+
 rt_ci() {
     tools/rt.sh ci 2>&1 | tee "$log" || return
     tail -n 1 "$log" | grep -qxE '[0-9]+ passed, 0 failed'
@@ -113,6 +117,7 @@ test_library() {
 
 say_skipped() {
     has_cargo || say 'tests from Rust and comparison with the Rust skipped: cargo is missing'
+    command -v python3 >/dev/null || say 'comparison of docs/CONTRACTS.md with the sources skipped: python3 is missing'
     [ -d "$sources/sifli-hal/src" ] ||
         say "comparison with the Rust skipped: no sources at $sources (SIFLI_SRC names their folder)"
 }
@@ -125,6 +130,7 @@ need "${CXX:-g++}" 'to test the header from C++'
 
 say_skipped
 stage 'list of crates' every_crate_is_listed
+stage 'docs/CONTRACTS.md and the sources' contracts_are_made
 rm -rf target
 begin oracle test_oracle
 begin programs test_programs
