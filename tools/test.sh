@@ -131,6 +131,7 @@ need "${CXX:-g++}" 'to test the header from C++'
 say_skipped
 stage 'list of crates' every_crate_is_listed
 stage 'docs/CONTRACTS.md and the sources' contracts_are_made
+stage 'a place for each definition' tools/spec.sh "$logs/spec.md"
 rm -rf target
 begin oracle test_oracle
 begin programs test_programs
