@@ -141,5 +141,7 @@ stage 'why the must-fail edits were refused' tools/refusals.sh
 stage 'tests of the oracle' end oracle
 stage 'tests of the programs' end programs
 stage 'tests of the library' end library
+# When the static library is written, whose line counts the axioms of all that it links.
+stage 'axioms' tools/axioms.sh
 say "all passed ($SECONDS s)"
 tail -n 1 "$log"
