@@ -65,7 +65,7 @@ build/daemon: examples/daemon.c include/rikkovan.h $(LIBRARY)
 	@mkdir -p build
 	$(CC) -std=c99 $(STRICT) $(CFLAGS) -Iinclude -o $@ examples/daemon.c $(LIBRARY)
 
-$(PROGRAMS): target/bin/%: $(SOURCES)
+$(PROGRAMS) target/bin/replay: target/bin/%: $(SOURCES)
 	$(RT) check $*
 
 # Some of the files are refused on purpose, and the daemon's status is then 1.
@@ -108,9 +108,10 @@ fuzz: build/fuzz
 test-fuzz: $(LIBRARY)
 	@CC='$(CC)' tests/fuzz/run.sh
 
-test-programs: $(PROGRAMS)
+test-programs: $(PROGRAMS) target/bin/replay
 	@tests/lpset/run.sh
 	@tests/moments/run.sh
+	@tests/replay/run.sh
 
 test-oracle:
 	$(CARGO) test --quiet --offline --manifest-path oracle/Cargo.toml --lib

@@ -102,7 +102,7 @@ await() { # FILE..
 }
 
 test_programs() {
-    await log/lpset.stamp log/moments.stamp
+    await log/lpset.stamp log/moments.stamp log/replay.stamp
     low_make test-programs
 }
 
