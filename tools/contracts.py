@@ -228,8 +228,8 @@ def exports(sources):
         ways[item] = {edit: steps[one] for one in reversed(steps) for edit in one.edits}
     shared, rows = Counter(edit for way in ways.values() for edit in way), []
     for item, way in ways.items():
-        if len(way) < FEWEST:
-            sys.exit(f"contracts: {item.name} has {len(way)} wrong programs, and {FEWEST} are wanted")
+        if item.clauses("requires") or len(way) < FEWEST:
+            sys.exit(f"contracts: {item.name} requires something, or has fewer than {FEWEST} wrong programs")
         first = sorted(way, key=lambda edit: (shared[edit], way[edit]))[:NAMED]
         named = ", ".join(f"`{edit.crate}/{edit.label}`" for edit in first)
         rows.append([signature(item).replace("::".join(item.place[1:]) + "::", ""), contract(item), named, str(len(way))])
@@ -251,7 +251,12 @@ def page(sources, text):
             changed.append(name)
         return block
 
-    return re.sub(r"<!-- made: (\w+) -->\n.*?<!-- end -->", made, text, flags=re.S), changed
+    text = re.sub(r"<!-- made: (\w+) -->\n.*?<!-- end -->", made, text, flags=re.S)
+    edits = {(edit.crate, edit.label) for edit in sources.edits}
+    for crate, label in re.findall(r"`(\w+)/(\w+)`", text):
+        if crate in CRATES and label not in ("src", "specs", "proofs") and (crate, label) not in edits:
+            sys.exit(f"contracts: docs/CONTRACTS.md names {crate}/{label}, and there is no such edit")
+    return text, changed
 
 
 def main():
