@@ -246,7 +246,7 @@ def page(sources, text):
 
     def made(mark):
         name = mark[1]
-        block = f"<!-- made: {name} -->\n{tables[name]}\n<!-- end -->"
+        block = f"<!-- made: {name} -->\n\n{tables[name]}\n\n<!-- end -->"
         if block != mark[0]:
             changed.append(name)
         return block
