@@ -13,8 +13,8 @@ PAGE = ROOT / "docs/CONTRACTS.md"
 CRATES = re.findall(r"^(\w+):", (ROOT / "crates.txt").read_text(), re.M)
 # How many arguments of these are shown. The others are what is lent, and what is left of it.
 SHOWN = {"Gives": 1, "Answers": 1, "Does": 2, "DoesWithoutJournal": 1, "Lent": 1, "Admits": 1, "Puts": 1}
-# How many wrong programs the table of the exports names for a call, and how many there must be.
-NAMED, FEWEST = 8, 2
+# A wrong program is a call's own where at most FEW calls share it. A call has FEWEST of them, and the table of the exports names up to NAMED.
+FEW, FEWEST, NAMED = 4, 2, 8
 
 
 class Item:
@@ -46,7 +46,7 @@ class Edit:
         text = file.read_text()
         self.crate, self.label, self.true = file.parts[-3], file.stem, text.split("\n", 1)[0].strip("# ")
         self.file = file.parents[1] / re.search(r"^file: (.*)", text, re.M)[1]
-        self.olds = re.findall(r"^old: ?(.*(?:\n(?!old:|new:|file:).+)*)", text, re.M)
+        self.olds = re.findall(r"^old: (.*)", text, re.M)
 
 
 def code_of(file):
@@ -221,19 +221,19 @@ def room(sources, crate):
 
 
 def exports(sources):
-    """The table of what C calls: the edits of all that a call runs and its contract names, first those that the fewest calls share."""
+    """The table of what C calls, with the edits of all that a call runs and that its contract names."""
     ways = {}
     for item in filter(Item.exported, sources.items):
         steps = reached(item, lambda one: one.uses)
         ways[item] = {edit: steps[one] for one in reversed(steps) for edit in one.edits}
     shared, rows = Counter(edit for way in ways.values() for edit in way), []
     for item, way in ways.items():
-        if item.clauses("requires") or len(way) < FEWEST:
-            sys.exit(f"contracts: {item.name} requires something, or has fewer than {FEWEST} wrong programs")
-        first = sorted(way, key=lambda edit: (shared[edit], way[edit]))[:NAMED]
-        named = ", ".join(f"`{edit.crate}/{edit.label}`" for edit in first)
-        rows.append([signature(item).replace("::".join(item.place[1:]) + "::", ""), contract(item), named, str(len(way))])
-    return table(["call", "contract", "wrong programs, those of the fewest calls first", "in all"], rows)
+        own = sorted((edit for edit in way if shared[edit] <= FEW), key=lambda edit: (shared[edit], way[edit]))
+        if item.clauses("requires") or len(own) < FEWEST:
+            sys.exit(f"contracts: {item.name} requires something, or has fewer than {FEWEST} wrong programs of its own")
+        named = ", ".join(f"`{edit.crate}/{edit.label}`" for edit in own[:NAMED]) + (", .." if own[NAMED:] else "")
+        rows.append([signature(item).replace("::".join(item.place[1:]) + "::", ""), contract(item), named, str(len(own)), str(len(way))])
+    return table(["call", "contract", "its own wrong programs", "own", "in all"], rows)
 
 
 def page(sources, text):
