@@ -13,7 +13,7 @@ use Rattle.verdict.specs.declared.Verdict.the-variants.{Accepted, Refused}
 use Rattle.dvfs.specs.declared.hpsys.HpsysDvfsMode.the-variants.{D0, D1, S0, S1}
 use Rattle.dvfs.specs.declared.hpsys.HpsysModeFound.the-variants.{Mode, OutOfRange}
 use Rattle.dvfs.specs.Hpsys.{modeOf}
-use Rattle.journal.specs.Run.{Run, begin, unlessEnded, halted, store, cycles, delay, poll, measure}
+use Rattle.journal.specs.Run.{Run, begin, unlessEnded, halted, store, entry, delay, poll, measure}
 use Rattle.head.specs.declared.Head.{Head}
 use Rattle.head.specs.Head.{withRegisters, withReady}
 use Rattle.lpsys_request.specs.modes.{dividerFor}
@@ -86,8 +86,13 @@ mode-cases :
 unfolding modeOf
 mode-cases = (refl, refl, refl, refl, refl, refl, refl, refl)
 
--- "250 us at 240 MHz: 60,000 cycles."
-delay-case : cycles 240000000 250 ≡ 60000
+-- a head whose core is at 240 MHz: DLL1 at stage 9, undivided
+abbrev at240 : Head
+at240 = withReady true true false (withRegisters (set (set (set (replicate 35 0) 1 3) 2 65536) 3 65545) blank)
+
+-- "250 us at 240 MHz: 60,000 cycles.": the one entry of a delay, and the call goes on
+delay-case : delay 250 (begin at240) ≡ record { entries = entry 48 60000 ∷ []; head = at240; taken = 0; stop = 0 }
+unfolding delay unlessEnded blank hclkOf sysOf dllReading dllHz divided
 delay-case = refl
 
 -- "LPSYS 48, 25, 24, 7, 1 give dividers 0, 1, 2, 6, 48.": whatever the head, since its source gives 48 MHz or does not read
@@ -128,10 +133,6 @@ calibration-cases :
     × (calibrated (counted 11 161 0) .stop ≡ 33)
 unfolding blank calibrateHrc48 calibrate search adjusted judgedDifference measurement nextTrim difference halted store delay measure poll unlessEnded hclkOf sysOf divided
 calibration-cases = (refl, refl, refl, refl, refl)
-
--- a head record of a core at 240 MHz: DLL1 at stage 9, undivided
-abbrev at240 : Head
-at240 = withReady true true false (withRegisters (set (set (set (replicate 35 0) 1 3) 2 65536) 3 65545) blank)
 
 -- bookings with a period of 1,000 us, one after the other, of these cycles: what the last one leaves
 abbrev task : ℕ → ℕ → Task
