@@ -1,1 +1,1 @@
-// The worked cases of document 01, as theorems about the definitions: proofs/Cases.antt.
+// Worked cases of document 01, as theorems about the definitions: the starred ones are in proofs/Cases.antt.
