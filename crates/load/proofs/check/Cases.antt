@@ -1,6 +1,6 @@
 -- What the load check answers, case by case. Assumes nothing.
 use Prim.Native.Nat.{ℕ, _/_, _%_}
-use mathlib.Core.Path.{_≡_}
+use mathlib.Core.Path.{_≡_, _∙_}
 use mathlib.Core.Bool.{true, false}
 use mathlib.Core.List.{List}
 use lib.Dec.{eqb, ltb}
@@ -14,6 +14,7 @@ use Rattle.task.specs.Task.{allOk, distinct}
 use Rattle.task.specs.bytes.{taskIn, placed}
 use Rattle.task.proofs.bytes.Places.{placed-first}
 use Rattle.load.specs.Load.{loadOf}
+use Rattle.load.specs.declared.check.Checked.{Checked}
 use Rattle.load.specs.check.{listedSize, listedTasks, checkRefusal, loadCheck}
 
 module _ (b : List ℕ) where
@@ -21,6 +22,9 @@ module _ (b : List ℕ) where
   pub refuses : (n : ℕ) → (n ≡ 0 → ⊥) → checkRefusal b ≡ n → record { refusal = n; load = 0 } ≡ loadCheck b
   unfolding loadCheck
   refuses n z e = rw (e, ne-eqb n 0 z)
+
+  pub refused-as : (n : ℕ) (r : Checked) → r ≡ record { refusal = n; load = 0 } → (n ≡ 0 → ⊥) → checkRefusal b ≡ n → r ≡ loadCheck b
+  refused-as n r f z e = f ∙ refuses n z e
 
   pub accepts : checkRefusal b ≡ 0 → record { refusal = 0; load = loadOf (listedTasks b) } ≡ loadCheck b
   unfolding loadCheck

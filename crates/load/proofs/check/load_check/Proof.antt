@@ -10,7 +10,7 @@ use borrow.Author.Tests.{eq-eqb, ne-eqb, lt-ltb, le-ltb, not-true, not-false}
 use Rattle.task.specs.Task.{allOk, distinct}
 use Rattle.load.specs.Load.{loadOf}
 use Rattle.load.specs.check.{listedSize, listedTasks}
-use Rattle.load.proofs.check.Cases.{refuses, accepts, not-nine-each, too-many, one-wrong, two-alike, none, first-listed}
+use Rattle.load.proofs.check.Cases.{refused-as, accepts, not-nine-each, too-many, one-wrong, two-alike, none, first-listed}
 use Rattle.load.proofs.check.load_check.Statement.{statement}
 use Rattle.load.proofs.check.load_check.Tie as tie
 
@@ -20,7 +20,7 @@ refused-requires c κs = search needs
 returns : tie.Need-returns
 returns c =
     let then1 : tie.Then1 = search in
-    c .refused .ensures ∙ refuses _ 1 (λ z. omega arith) (not-nine-each _ (ne-eqb _ _ (then1 .if1 .taken)))
+    refused-as _ 1 _ (c .refused .ensures) (λ z. omega arith) (not-nine-each _ (ne-eqb _ _ (then1 .if1 .taken)))
 
 refused-requires-2 : tie.Need-refused-requires-2
 refused-requires-2 c κs = search needs
@@ -29,7 +29,7 @@ returns-2 : tie.Need-returns-2
 returns-2 c =
     let then2 : tie.Then2 = search in
     let else1 : tie.Else1 = search in
-    c .refused2 .ensures ∙ refuses _ 41 (λ z. omega arith) (too-many _ (eq-eqb _ _ (else1 .if1 .left)) (lt-ltb _ _ (then2 .if2 .taken)))
+    refused-as _ 41 _ (c .refused2 .ensures) (λ z. omega arith) (too-many _ (eq-eqb _ _ (else1 .if1 .left)) (lt-ltb _ _ (then2 .if2 .taken)))
 
 all-ok-requires : tie.Need-all-ok-requires
 all-ok-requires c κs = search needs
@@ -47,7 +47,7 @@ returns-3 c =
     let start : tie.Start = search in
     let b = start .args .bytes .now in
     let fails : allOk (listedTasks b) ≡ false = sym (tested .all-ok .ensures) ∙ not-true _ (then3 .if3 .taken) in
-    c .refused3 .ensures ∙ refuses b 16 (λ z. omega arith) (one-wrong b (eq-eqb _ _ (else1 .if1 .left)) (le-ltb _ _ (else2 .if2 .left)) fails)
+    refused-as b 16 _ (c .refused3 .ensures) (λ z. omega arith) (one-wrong b (eq-eqb _ _ (else1 .if1 .left)) (le-ltb _ _ (else2 .if2 .left)) fails)
 
 distinct-requires : tie.Need-distinct-requires
 distinct-requires c κs = search needs
@@ -68,7 +68,7 @@ returns-4 c =
     let b = start .args .bytes .now in
     let holds : allOk (listedTasks b) ≡ true = sym (tested .all-ok .ensures) ∙ not-false _ (else3 .if3 .left) in
     let fails : distinct (listedTasks b) ≡ false = sym (compared .distinct .ensures) ∙ not-true _ (then4 .if4 .taken) in
-    c .refused4 .ensures ∙ refuses b 40 (λ z. omega arith) (two-alike b (eq-eqb _ _ (else1 .if1 .left)) (le-ltb _ _ (else2 .if2 .left)) holds fails)
+    refused-as b 40 _ (c .refused4 .ensures) (λ z. omega arith) (two-alike b (eq-eqb _ _ (else1 .if1 .left)) (le-ltb _ _ (else2 .if2 .left)) holds fails)
 
 tasks-at-requires : tie.Need-tasks-at-requires
 tasks-at-requires c κs = search needs
