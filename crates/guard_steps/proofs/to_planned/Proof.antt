@@ -18,9 +18,7 @@ same-length c = search needs
 
 returns : tie.Need-returns
 unfolding toPlanned
-returns c =
-    let after-store : tie.After-store = search in
-    after-store .store .ensures
+returns c = search
 
 pub to-planned-spec : {M : Type 1} → statement M
 to-planned-spec = tie.close (tie.spec cast-store store-requires same-length returns)

@@ -1,4 +1,12 @@
--- `guard_steps::supply::target_rails_s` meets its contract: one step after the other. Assumes nothing.
+-- `guard_steps::supply::settle_s` meets its contract: one step after the other. Assumes nothing.
+use Prim.Native.Nat.{ℕ}
+use mathlib.Core.List.{List}
+use Rattle.register.specs.Numbers.{HPSYS_SUPPLY}
+use Rattle.dvfs.specs.declared.hpsys.HpsysDvfsMode.{HpsysDvfsMode}
+use Rattle.dvfs_hpsys.specs.volts.{sxModeVolt, timing}
+use Rattle.journal.specs.declared.Machine.{Machine}
+use Rattle.journal.specs.Machine.{Does, none}
+use Rattle.journal.specs.Run.{_▸_, store}
 use Rattle.dvfs_hpsys.proofs.volts.Rows.{supply-fits}
 use Rattle.journal.proofs.Does.{_then_}
 use borrow.Author.Needs.{needs}
@@ -17,12 +25,16 @@ store-requires c κs = (search needs, (search needs, supply-fits .0))
 same-length : tie.Need-same-length
 same-length c = search needs
 
+-- the volts, then the timing, then the supply
+settled : (mode : HpsysDvfsMode) {m m₁ m₂ m₃ : Machine} {j j₁ j₂ j₃ : List ℕ} →
+    Does 2 (sxModeVolt mode) m m₁ j j₁ none → Does 1 (timing mode) m₁ m₂ j₁ j₂ none → Does 1 (store HPSYS_SUPPLY 0) m₂ m₃ j₂ j₃ none →
+    Does 4 (sxModeVolt mode ▸ timing mode ▸ store HPSYS_SUPPLY 0) m m₃ j j₃ none
+settled mode volts timed supplied = volts then timed then supplied
+
 returns : tie.Need-returns
 returns c =
-    let supplied : tie.After-store = search in
-    let timed : tie.After-store-timing = search in
-    let set : tie.After-config-hcpu-sx-mode-volt = search in
-    set .config-hcpu-sx-mode-volt .ensures then timed .store-timing .ensures then supplied .store .ensures
+    let start : tie.Start = search in
+    search (settled (start .args .mode))
 
 pub settle-s-spec : {M : Type 1} → statement M
 settle-s-spec =
