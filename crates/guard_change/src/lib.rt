@@ -6,7 +6,7 @@ ghost use Rattle.plan_clocks.specs.Clocks.{hclkHz};
 ghost use Rattle.register.specs.Codes.{fitsRegister};
 ghost use Rattle.register.specs.Numbers.{FLASH};
 ghost use Rattle.journal.specs.Machine.{Lent, Does, none, taking};
-ghost use Rattle.guard_change.specs.Change.{steps1to4, steps5to8, change};
+ghost use Rattle.guard_change.specs.Change.{steps1to4, steps5to8, steps, change};
 use dvfs::HpsysDvfsMode;
 use journal::Machine;
 use plan::Plan;
@@ -45,6 +45,25 @@ fn steps5to8(m: Machine, journal: &mut [u32], p: Plan, selects: u32, target: Her
     guard_steps::supply::target_rails(m, journal, mode)
 }
 
+// All steps, one half after the other.
+fn steps(
+    m: Machine,
+    journal: &mut [u32],
+    answers: &[u16],
+    p: Plan,
+    peak: HpsysDvfsMode,
+    selects: u32,
+    target: Hertz,
+) -> Machine
+    requires { ⌜ Lent 20 m (now journal) (taking (now answers)) ⌝ }
+    requires { ⌜ legal p ≡ true ⌝ }
+    requires { ⌜ (fitsRegister FLASH selects ≡ true) × (target .0 ≡ hclkHz p) ⌝ }
+    ensures { λ r. ⌜ Does 20 (steps peak selects p (now (answers .entry))) m r (now (journal .entry)) (now (journal .exit)) (taking (now (answers .entry))) ⌝ }
+{
+    let m = steps1to4(m, journal, answers, p, peak);
+    steps5to8(m, journal, p, selects, target)
+}
+
 // The guarded change to a plan, whose HCLK is `target`.
 pub fn change(m: Machine, journal: &mut [u32], answers: &[u16], p: Plan, target: Hertz) -> Machine
     requires { ⌜ Lent 20 m (now journal) (taking (now answers)) ⌝ }
@@ -55,6 +74,5 @@ pub fn change(m: Machine, journal: &mut [u32], answers: &[u16], p: Plan, target:
     let selects = head.regs[register::FLASH];
     let present = clock_read::get_hclk_freq(head).unwrap_or(Hertz(0));
     let peak = guard_steps::peak::of(present, target);
-    let m = steps1to4(m, journal, answers, p, peak);
-    steps5to8(m, journal, p, selects, target)
+    steps(m, journal, answers, p, peak, selects, target)
 }

@@ -1,4 +1,4 @@
--- `guard_change::change` meets its contract: the head gives the peak and the flash selects, then one half after the other. Assumes nothing.
+-- `guard_change::change` meets its contract: the head gives the peak and the flash selects, then all steps. Assumes nothing.
 use native.Mathlib.Omega.{arith}
 use mathlib.Core.Path.{_≡_, sym}
 use Rattle.head.specs.declared.Head.{Head}
@@ -8,7 +8,7 @@ use Rattle.clock_read.specs.Hpsys.{reg, hclkOf}
 use Rattle.register.specs.Numbers.{FLASH}
 use Rattle.guard_steps.specs.peak.{peakOf}
 use Rattle.guard_change.specs.Change.{steps, change}
-use Rattle.journal.proofs.Does.{_then_, by-head, lent-within}
+use Rattle.journal.proofs.Does.{by-head}
 use borrow.Author.Needs.{needs}
 use Rattle.guard_change.proofs.change.Statement.{statement}
 use Rattle.guard_change.proofs.change.Tie as tie
@@ -25,15 +25,10 @@ unwrap-or-requires c κs = search needs
 of-requires : tie.Need-of-requires
 of-requires c κs = search needs
 
-steps1to4-requires : tie.Need-steps1to4-requires
-steps1to4-requires c κs =
+steps-requires : tie.Need-steps-requires
+steps-requires c κs =
     let start : tie.Start = search in
-    (lent-within (omega arith) (start .pre .0), start .pre .1 .0)
-
-steps5to8-requires : tie.Need-steps5to8-requires
-steps5to8-requires c κs =
-    let start : tie.Start = search in
-    (search needs, (start .pre .1 .0, (start .pre .0 .encodable .codes FLASH (omega arith), start .pre .1 .1)))
+    (start .pre .0, (start .pre .1 .0, (start .pre .0 .encodable .codes FLASH (omega arith), start .pre .1 .1)))
 
 same-length : tie.Need-same-length
 same-length c = search needs
@@ -42,8 +37,6 @@ returns : tie.Need-returns
 unfolding change
 returns c =
     let start : tie.Start = search in
-    let arrived : tie.After-steps5to8 = search in
-    let left : tie.After-steps1to4 = search in
     let found : tie.After-of = search in
     let present : tie.After-unwrap-or = search in
     let read : tie.After-get-hclk-freq = search in
@@ -51,7 +44,7 @@ returns c =
     let peak : peakOf (hzOr 0 (hclkOf (start .args .m .head))) (hclkHz p) ≡ found .of .result =
     simp (← read .get-hclk-freq .ensures, ← present .unwrap-or .ensures, ← start .pre .1 .1) (sym (found .of .ensures)) in
     by-head (λ (h : Head). steps (peakOf (hzOr 0 (hclkOf h)) (hclkHz p)) (reg h FLASH) p (start .args .answers .now))
-    (rw peak (left .steps1to4 .ensures then arrived .steps5to8 .ensures))
+    (rw peak search)
 
 pub change-spec : {M : Type 1} → statement M
 change-spec =
@@ -61,7 +54,6 @@ change-spec =
     get-hclk-freq-requires
     unwrap-or-requires
     of-requires
-    steps1to4-requires
-    steps5to8-requires
+    steps-requires
     same-length
     returns)
