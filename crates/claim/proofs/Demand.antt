@@ -10,7 +10,7 @@ use Rattle.claim.proofs.Performed.{Fine}
 use Rattle.claim.proofs.Calls.{guarded, books, releases, requests}
 
 -- one call
-one : (b : List ℕ) → FitHead b → (ts : List Task) → booked (headOf b) ≡ ts → (c : Call) → Typed c → Fine b c (perform c b) ts
+pub one : (b : List ℕ) → FitHead b → (ts : List Task) → booked (headOf b) ≡ ts → (c : Call) → Typed c → Fine b c (perform c b) ts
 one b fit ts holds (changing pb j a) typed = guarded b fit ts holds pb j a
 one b fit ts holds (booking t) typed = books b fit ts holds t typed
 one b fit ts holds (releasing id) typed = releases b fit ts holds id

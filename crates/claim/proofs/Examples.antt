@@ -53,7 +53,7 @@ use Rattle.call.specs.Call.{performed}
 use Rattle.head.specs.tasks.{holding, without}
 use Rattle.booking.specs.Booking.{book}
 use Rattle.booking.specs.Release.{release}
-use Rattle.claim.specs.Claim.{Call, changing, booking, releasing, requesting, perform}
+use Rattle.claim.specs.Claim.{Call, changing, booking, releasing, requesting, perform, entriesOf}
 
 -- a head at 48 MHz on D: the core on HXT48, D1's buck and ldo, LPSYS on HXT48 at 24 MHz
 abbrev head48 : Head
@@ -76,12 +76,31 @@ answers b (c ∷ cs) = perform c b .refusal ∷ answers (perform c b .buffer) cs
 abbrev Fit : Type 0
 Fit = (headRefusal bytes48 ≡ 0) × (fits (headOf bytes48) ≡ true)
 
+-- to 240 MHz by the default plan, DLL1 ready at the second answer
+abbrev planned : Call
+planned = changing defaultRecord journal (0 ∷ 1 ∷ [])
+
 -- 240 MHz by the default plan, two tasks, LPSYS at 48 MHz, and a task released
 abbrev Done : Type 0
 Done =
     answers bytes48
-    (changing defaultRecord journal (0 ∷ 1 ∷ []) ∷ booking (task 1 120000) ∷ booking (task 2 80000) ∷ requesting 48 journal ∷ releasing 1 ∷ [])
+    (planned ∷ booking (task 1 120000) ∷ booking (task 2 80000) ∷ requesting 48 journal ∷ releasing 1 ∷ [])
     ≡ 0 ∷ 0 ∷ 0 ∷ 0 ∷ 0 ∷ []
+
+-- the journal of the first of these calls, and of the same call made again, when HCLK is as planned: steps 6 and 8 are made all the same
+abbrev Order : Type 0
+Order =
+    (entriesOf (perform planned bytes48) ≡
+    -- (1) the peak is 240 MHz: S1's buck and ldo, the supply to S, 250 us at 48 MHz, the timing
+    0x0d00000f ∷ 0x0e00000d ∷ 0x0c000000 ∷ 0x30002ee0 ∷ 0x11003043
+    -- (2) no flash select is on DLL1, (3) the core is on HXT48: no store; (4) the bandgap, DLL1 off and on, 10 us, the wait with two answers
+    ∷ 0x0b000100 ∷ 0x0b000101 ∷ 0x03000000 ∷ 0x03010009 ∷ 0x300001e0 ∷ 0x31030002
+    -- (5) the dividers, (6) the core on DLL1, (7) no select to put back, (8) the target's rails
+    ∷ 0x02010106 ∷ 0x01000003 ∷ 0x0d00000f ∷ 0x0e00000d ∷ 0x11003043 ∷ 0x0c000000 ∷ [])
+    × (entriesOf (perform planned (perform planned bytes48 .buffer)) ≡
+    -- (3) to HXT48, (4) DLL1 off and on, (5), (6), (8)
+    0x01000001 ∷ 0x03000009 ∷ 0x03010009 ∷ 0x300001e0 ∷ 0x31030002 ∷ 0x02010106 ∷ 0x01000003
+    ∷ 0x0d00000f ∷ 0x0e00000d ∷ 0x11003043 ∷ 0x0c000000 ∷ [])
 
 -- each refusal that such a list can meet, on one head: the head's 1 to 3, 34 and 37 are not among them
 abbrev with : List ℕ → ℕ → ℕ → List ℕ
@@ -145,7 +164,7 @@ abbrev Full : Type 0
 Full = answers (written (holding (sixteen 16) head48) (replicate bufferBytes 0)) (booking (task 17 1) ∷ []) ≡ 41 ∷ []
 
 -- all of them, by computing what the definitions say
-examples : Fit × (Done × (Refused × Full))
+examples : Fit × (Done × (Order × (Refused × Full)))
 unfolding blank headRefusal firstOf lengthFits isWithin largest tasksFit tasksIn items taskIn fourIn allOk taskOk distinct
     hasId headOf registersIn wordIn placesIn written recordOf frontOf stateOf joined wordBytes taskBytes fourBytes
     fits sourceIsOn railLimit higher met vrefOf hclkOf sysOf dllReading dllHz divided lpsysHclkOf lpsysSysOf verdict decoded
@@ -156,4 +175,4 @@ unfolding blank headRefusal firstOf lengthFits isWithin largest tasksFit tasksIn
     d2sFirst s2dFirst s2dSecond sxModeVolt timing store unlessEnded delay wait poll loadOf shareOf book release without
     lpsysRequest request setHdiv dividerFor presentMode requestMode lpsysModeOf lpsysD2sFirst lpsysS2dFirst
     lpsysS2dSecond
-examples = ((refl, refl), (refl, (refl, refl)))
+examples = ((refl, refl), (refl, ((refl, refl), (refl, refl))))

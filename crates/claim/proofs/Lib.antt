@@ -1,8 +1,11 @@
 pub mod Heads
 pub mod Written
+pub mod Never
+pub mod Counts
 pub mod Performed
 pub mod Calls
 pub mod Demand
+pub mod Given
 pub mod Examples
 pub mod changes
 pub mod requests

@@ -111,6 +111,9 @@ pub record Good (b : List ℕ) (c : Call) (o : Result) (ts : List Task) : Type 0
   -- "after each call the head holds just these, in that order"
   pub tasks : booked (headOf (o .buffer)) ≡ after c (o .refusal) ts
   pub asked : Asked c b o (after c (o .refusal) ts)
+  -- no call finds the head "37 not fit" or "34 HCLK unreadable": a test that refuses more than it should breaks the claim
+  pub never-37 : o .refusal ≡ 37 → ⊥
+  pub never-34 : o .refusal ≡ 34 → ⊥
 
 -- "One claim for every list ..; each call gets the head as the last one returned it, and nobody else writes it."
 abbrev pub Claim : List ℕ → List Task → List Call → Type 0

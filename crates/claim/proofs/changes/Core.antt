@@ -156,7 +156,7 @@ module _ (h : Head) (w : ℕ) {s t f top : ℕ} where
   unfolding leaveDll1
   leave-safe r c =
       progress-if h (onDll1 (reg (r .head) 5)) (store 5 (moved (reg (r .head) 5))) idle r
-      (λ e. progress-store h 5 (λ (x : Regs). moved (x 5)) (lit< tt) moved-fits (λ x a q. (
+      (λ e. progress-store h 5 (λ (x : Regs). moved (x 5)) (lit< tt) refl moved-fits (λ x a q. (
         record { reads = a .reads; below = a .below; rails = a .rails; flash = flash-moved (x 5) (x 3) (x 3) (x 4) (a .flash); low = a .low },
         (λ d. flash-moved (x 5) (x 3) d (x 4) (a .flash), rw q at (a .flash)),
       )) r c)
@@ -171,7 +171,7 @@ module _ (h : Head) (w : ℕ) {s t f top : ℕ} where
       (λ e. let k = eqb-true (reg (r .head) 1) 1 e in
       let reads = hxt-clock h on (reg (r .head) 2) (reg (r .head) 3) (reg (r .head) 1) k in
       progress-now h r (λ a q. (record { reads = reads; below = low; rails = a .rails; flash = a .flash; low = a .low }, (q .0, q .1, k))) c)
-      (λ e. progress-store h 1 (λ (x : Regs). 1) (lit< tt) (λ _ _. select-fits 1 (omega arith)) (λ x a q. (
+      (λ e. progress-store h 1 (λ (x : Regs). 1) (lit< tt) refl (λ _ _. select-fits 1 (omega arith)) (λ x a q. (
         record { reads = rw (q .1) (hxt-clock h on (reg (r .head) 2) (x 3) 1 refl); below = low; rails = a .rails; flash = a .flash; low = a .low },
         (q .0 .0, q .0 .1, refl),
       )) r (progress-now h {Q' = λ (x : Regs). (Free x × Was w x) × (x 2 ≡ reg (r .head) 2)} r (λ a q. (a, (q, refl))) c))
@@ -182,7 +182,7 @@ module _ (h : Head) (w : ℕ) {s t f top : ℕ} where
   -- (4), its stores: the bandgap's, then DLL1 off and on
   bandgap : {Q : Regs → Type 0} (v : Regs → ℕ) → ((g : Head) → Encodable g → fitsRegister 11 (v (view (g .regs))) ≡ true) → ((x : Regs) (u : ℕ) → Q x → Q (put x 11 u)) →
       (r : Run) → Progress h s t f top Q r → Progress h s t f top Q (store 11 (v (view (r .head .regs))) r)
-  bandgap v vs g = progress-store h 11 v (lit< tt) vs (λ x a q. (record { reads = a .reads; below = a .below; rails = a .rails; flash = a .flash; low = a .low }, g x (v x) q))
+  bandgap v vs g = progress-store h 11 v (lit< tt) refl vs (λ x a q. (record { reads = a .reads; below = a .below; rails = a .rails; flash = a .flash; low = a .low }, g x (v x) q))
 
   hpbg-safe : {Q : Regs → Type 0} → ((x : Regs) (u : ℕ) → Q x → Q (put x 11 u)) → (r : Run) → Progress h s t f top Q r → Progress h s t f top Q (hpbgOn r)
   unfolding hpbgOn
@@ -198,13 +198,13 @@ module _ (h : Head) (w : ℕ) {s t f top : ℕ} where
 
   off-safe : (r : Run) → Progress h s t f top (λ (x : Regs). Free x × Was w x × (x 1 ≡ 1)) r → Progress h s t f top (λ (x : Regs). Free x × Could w x × (x 1 ≡ 1)) (dllOff 3 r)
   unfolding dllOff
-  off-safe = progress-store h 3 (λ (x : Regs). wordOf 0 (byteB (x 3)) (byteC (x 3))) (lit< tt) off-fits (λ x a q.
+  off-safe = progress-store h 3 (λ (x : Regs). wordOf 0 (byteB (x 3)) (byteC (x 3))) (lit< tt) refl off-fits (λ x a q.
       (dll-fit h (wordOf 0 (byteB (x 3)) (byteC (x 3))) x a (q .0) (q .2), (q .0, λ d on. flash-on w (x 3) d (x 4) on (q .1), q .2)))
 
   on-safe : (d : Dll) → d .stage ≤ 15 → (r : Run) → Progress h s t f top (λ (x : Regs). Free x × Could w x × (x 1 ≡ 1)) r →
       Progress h s t f top (λ (x : Regs). Free x × Was w x × (x 1 ≡ 1) × Locked (Present d) (x 3)) (dllOn 3 d r)
   unfolding dllOn
-  on-safe d l = progress-store h 3 (λ (x : Regs). dllWord d) (lit< tt) (λ _ _. on-word d l .fits) (λ x a q.
+  on-safe d l = progress-store h 3 (λ (x : Regs). dllWord d) (lit< tt) refl (λ _ _. on-word d l .fits) (λ x a q.
       (dll-fit h (dllWord d) x a (q .0) (q .2), (q .0, q .1 (dllWord d) (on-word d l .on), q .2, refl)))
 
 -- a wait ends exactly if one of the answers is ready
@@ -233,7 +233,7 @@ module _ (h : Head) (w : ℕ) {f top : ℕ} (a : List ℕ) where
       (polled a) (progress-wait h 3 a (delay 10 r2) (progress-delay h 10 r2 c2))
 
 -- a plan's dividers
-abbrev divWord : Plan → ℕ
+abbrev pub divWord : Plan → ℕ
 divWord p = wordOf (p .hdiv) (p .pdiv1) (p .pdiv2)
 
 div-word : (p : Plan) → Coded p → byteA (divWord p) ≡ p .hdiv
@@ -241,6 +241,12 @@ div-word p k =
     let b = k .pdiv1 in
     let c = k .pdiv2 in
     omega (arith, k .hdiv)
+
+-- registers 1 to 3 as a plan has them
+pub record Planned (p : Plan) (s v d : ℕ) : Type 0 where
+  pub sysclk : s ≡ p .sys
+  pub dividers : v ≡ divWord p
+  pub dll1 : Locked (p .dll1) d
 
 module _ (h : Head) (p : Plan) (ok : Passed p) (y : Ready p h) where
   -- HCLK is the plan's once its registers are set
@@ -268,7 +274,7 @@ module _ (h : Head) (p : Plan) (ok : Passed p) (y : Ready p h) where
     pub dividers-safe : 48000000 ≤ top → (r : Run) → Progress h s t f top (λ (x : Regs). Free x × Was w x × (x 1 ≡ 1) × Locked (p .dll1) (x 3)) r →
         Progress h s t (divided 48000000 (byteA (divWord p))) top (λ (x : Regs). Was w x × (x 2 ≡ divWord p) × Locked (p .dll1) (x 3)) (dividers p r)
     unfolding dividers
-    dividers-safe wide = progress-store h 2 (λ (x : Regs). divWord p) (lit< tt) (λ _ _. dividers-fit p (ok .test-3)) (λ x a q. (
+    dividers-safe wide = progress-store h 2 (λ (x : Regs). divWord p) (lit< tt) refl (λ _ _. dividers-fit p (ok .test-3)) (λ x a q. (
       record {
         reads = hxt-clock h (y .hxt48) (divWord p) (x 3) (x 1) (q .2);
         below = omega (arith, divided-most 48000000 (byteA (divWord p)));
@@ -281,18 +287,19 @@ module _ (h : Head) (p : Plan) (ok : Passed p) (y : Ready p h) where
 
     -- (6)
     pub planned-safe : limitHz (modeAt (hclkHz p)) ≤ top → (r : Run) → Progress h s t f top (λ (x : Regs). Was w x × (x 2 ≡ divWord p) × Locked (p .dll1) (x 3)) r →
-        Progress h s t (hclkHz p) top (Was w) (toPlanned p r)
+        Progress h s t (hclkHz p) top (λ (x : Regs). Was w x × Planned p (x 1) (x 2) (x 3)) (toPlanned p r)
     unfolding toPlanned
-    planned-safe wide = progress-store h 1 (λ (x : Regs). p .sys) (lit< tt) (λ _ _. sys-fits p (ok .test-3)) (λ x a q. (
+    planned-safe wide = progress-store h 1 (λ (x : Regs). p .sys) (lit< tt) refl (λ _ _. sys-fits p (ok .test-3)) (λ x a q. (
       record { reads = plan-clock (x 2) (x 3) (q .1) (q .2); below = omega (arith, target-clock p ok); rails = a .rails; flash = a .flash; low = a .low },
-      q .0,
+      (q .0, record { sysclk = refl; dividers = q .1; dll1 = q .2 }),
     ))
 
 -- (7)
-module _ (h : Head) (w : ℕ) {s t f top : ℕ} where
-  pub back-safe : fitsRegister 5 w ≡ true → (r : Run) → Progress h s t f top (Was w) r → Progress h s t f top (λ (x : Regs). Unit {0}) (backTo w r)
+module _ (h : Head) (w : ℕ) {s t f top : ℕ} (G : ℕ → ℕ → ℕ → Type 0) where
+  pub back-safe : fitsRegister 5 w ≡ true → (r : Run) → Progress h s t f top (λ (x : Regs). Was w x × G (x 1) (x 2) (x 3)) r →
+      Progress h s t f top (λ (x : Regs). G (x 1) (x 2) (x 3)) (backTo w r)
   unfolding backTo
   back-safe fits r c =
       progress-if h (onDll1 w) (store 5 w) idle r
-      (λ e. progress-store h 5 (λ (x : Regs). w) (lit< tt) (λ _ _. fits) (λ x a q. (record { reads = a .reads; below = a .below; rails = a .rails; flash = q; low = a .low }, tt)) r c)
-      (λ e. progress-now h r (λ a q. (a, tt)) c)
+      (λ e. progress-store h 5 (λ (x : Regs). w) (lit< tt) refl (λ _ _. fits) (λ x a q. (record { reads = a .reads; below = a .below; rails = a .rails; flash = q .0; low = a .low }, q .1)) r c)
+      (λ e. progress-now h r (λ a q. (a, q .1)) c)

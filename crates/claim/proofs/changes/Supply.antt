@@ -20,46 +20,49 @@ use Rattle.claim.proofs.changes.Rails.{Of, first, second, buck, up-s, d
 use Rattle.claim.proofs.changes.View.{Regs, put, rail}
 use Rattle.claim.proofs.changes.Progress.{Progress, progress-now, progress-store, progress-delay, progress-if}
 
--- `F` holds of the flash selects, register 5
-module _ (h : Head) {s t f : ℕ} (F : ℕ → Type 0) where
+-- what is said of registers 1 to 3 and 5, which no step of a supply stores
+abbrev Other : (ℕ → ℕ → ℕ → ℕ → Type 0) → Regs → Type 0
+Other F x = F (x 1) (x 2) (x 3) (x 5)
+
+module _ (h : Head) {s t f : ℕ} (F : ℕ → ℕ → ℕ → ℕ → Type 0) where
   -- buck and ldo of a supply: the rails carry `k` after the first store, `k'` after the second
   module _ (b l k k' : ℕ) (p : f ≤ k) (p' : f ≤ k') {top : ℕ} {R : Regs → Type 0} where
     volts-s : fitsRegister 13 b ≡ true → fitsRegister 14 l ≡ true →
         ((x : Regs) → top ≤ rail h x → R x → (k ≤ railOf (x 12) b (x 14) (x 15) (x 16)) × (k' ≤ railOf (x 12) b l (x 15) (x 16))) →
-        (r : Run) → Progress h s t f top (λ (x : Regs). F (x 5) × R x) r → Progress h s t f k' (λ (x : Regs). F (x 5) × ((x 13 ≡ b) × (x 14 ≡ l))) ((store 13 b ▸ store 14 l) r)
+        (r : Run) → Progress h s t f top (λ (x : Regs). Other F x × R x) r → Progress h s t f k' (λ (x : Regs). Other F x × ((x 13 ≡ b) × (x 14 ≡ l))) ((store 13 b ▸ store 14 l) r)
     volts-s bs ls g r c =
-        let mid : Progress h s t f k (λ (x : Regs). F (x 5) × ((x 13 ≡ b) × (k' ≤ railOf (x 12) b l (x 15) (x 16)))) (store 13 b r) =
-        progress-store h 13 (λ (x : Regs). b) (lit< tt) (λ _ _. bs) (λ x a q. let n = g x (a .rails) (q .1) in
+        let mid : Progress h s t f k (λ (x : Regs). Other F x × ((x 13 ≡ b) × (k' ≤ railOf (x 12) b l (x 15) (x 16)))) (store 13 b r) =
+        progress-store h 13 (λ (x : Regs). b) (lit< tt) refl (λ _ _. bs) (λ x a q. let n = g x (a .rails) (q .1) in
         (record { reads = a .reads; below = p; rails = n .0; flash = a .flash; low = a .low }, (q .0, (refl, n .1)))) r c in
-        progress-store h 14 (λ (x : Regs). l) (lit< tt) (λ _ _. ls) (λ x a q.
+        progress-store h 14 (λ (x : Regs). l) (lit< tt) refl (λ _ _. ls) (λ x a q.
         (record { reads = a .reads; below = p'; rails = rw (q .1 .0) (q .1 .1); flash = a .flash; low = a .low }, (q .0, (q .1 .0, refl)))) (store 13 b r) mid
 
     volts-d : fitsRegister 15 b ≡ true → fitsRegister 16 l ≡ true →
         ((x : Regs) → top ≤ rail h x → R x → (k ≤ railOf (x 12) (x 13) (x 14) b (x 16)) × (k' ≤ railOf (x 12) (x 13) (x 14) b l)) →
-        (r : Run) → Progress h s t f top (λ (x : Regs). F (x 5) × R x) r → Progress h s t f k' (λ (x : Regs). F (x 5) × ((x 15 ≡ b) × (x 16 ≡ l))) ((store 15 b ▸ store 16 l) r)
+        (r : Run) → Progress h s t f top (λ (x : Regs). Other F x × R x) r → Progress h s t f k' (λ (x : Regs). Other F x × ((x 15 ≡ b) × (x 16 ≡ l))) ((store 15 b ▸ store 16 l) r)
     volts-d bs ls g r c =
-        let mid : Progress h s t f k (λ (x : Regs). F (x 5) × ((x 15 ≡ b) × (k' ≤ railOf (x 12) (x 13) (x 14) b l))) (store 15 b r) =
-        progress-store h 15 (λ (x : Regs). b) (lit< tt) (λ _ _. bs) (λ x a q. let n = g x (a .rails) (q .1) in
+        let mid : Progress h s t f k (λ (x : Regs). Other F x × ((x 15 ≡ b) × (k' ≤ railOf (x 12) (x 13) (x 14) b l))) (store 15 b r) =
+        progress-store h 15 (λ (x : Regs). b) (lit< tt) refl (λ _ _. bs) (λ x a q. let n = g x (a .rails) (q .1) in
         (record { reads = a .reads; below = p; rails = n .0; flash = a .flash; low = a .low }, (q .0, (refl, n .1)))) r c in
-        progress-store h 16 (λ (x : Regs). l) (lit< tt) (λ _ _. ls) (λ x a q.
+        progress-store h 16 (λ (x : Regs). l) (lit< tt) refl (λ _ _. ls) (λ x a q.
         (record { reads = a .reads; below = p'; rails = rw (q .1 .0) (q .1 .1); flash = a .flash; low = a .low }, (q .0, (q .1 .0, refl)))) (store 15 b r) mid
 
   -- the supply itself, and the timing, which no reading looks at
   module _ (v : ℕ) {top : ℕ} {R : Regs → Type 0} where
     supply : (k : ℕ) → fitsRegister 12 v ≡ true → f ≤ k → ((x : Regs) → R x → k ≤ railOf v (x 13) (x 14) (x 15) (x 16)) →
-        (r : Run) → Progress h s t f top (λ (x : Regs). F (x 5) × R x) r → Progress h s t f k (λ (x : Regs). F (x 5)) (store 12 v r)
+        (r : Run) → Progress h s t f top (λ (x : Regs). Other F x × R x) r → Progress h s t f k (λ (x : Regs). Other F x) (store 12 v r)
     supply k vs p g =
-        progress-store h 12 (λ (x : Regs). v) (lit< tt) (λ _ _. vs) (λ x a q. (record { reads = a .reads; below = p; rails = g x (q .1); flash = a .flash; low = a .low }, q .0))
+        progress-store h 12 (λ (x : Regs). v) (lit< tt) refl (λ _ _. vs) (λ x a q. (record { reads = a .reads; below = p; rails = g x (q .1); flash = a .flash; low = a .low }, q .0))
 
     timed : fitsRegister 17 v ≡ true → ((x : Regs) → R x → R (put x 17 v)) → (r : Run) → Progress h s t f top R r → Progress h s t f top R (store 17 v r)
     timed vs g =
-        progress-store h 17 (λ (x : Regs). v) (lit< tt) (λ _ _. vs) (λ x a q. (record { reads = a .reads; below = a .below; rails = a .rails; flash = a .flash; low = a .low }, g x q))
+        progress-store h 17 (λ (x : Regs). v) (lit< tt) refl (λ _ _. vs) (λ x a q. (record { reads = a .reads; below = a .below; rails = a .rails; flash = a .flash; low = a .low }, g x q))
 
   module _ {m : HpsysDvfsMode} (p : f ≤ limitHz m) where
     -- the S supply, up to a row above the rail limit and down to one within it
     module _ (o : Of S0 S1 m) (l : ℕ) (e : ldoOf m ≡ l) (ls : fitsRegister 14 l ≡ true) where
-      up : (r : Run) → Progress h s t f f (λ (x : Regs). F (x 5) × (rail h x < limitHz m)) r →
-          Progress h s t f (limitHz m) (λ (x : Regs). F (x 5)) ((store 13 (buck m) ▸ store 14 l ▸ store 12 0 ▸ delay 250 ▸ store 17 (rowOf m .ulpmcr)) r)
+      up : (r : Run) → Progress h s t f f (λ (x : Regs). Other F x × (rail h x < limitHz m)) r →
+          Progress h s t f (limitHz m) (λ (x : Regs). Other F x) ((store 13 (buck m) ▸ store 14 l ▸ store 12 0 ▸ delay 250 ▸ store 17 (rowOf m .ulpmcr)) r)
       up r c =
           let r1 = (store 13 (buck m) ▸ store 14 l) r in
           let c1 = volts-s (buck m) l f f (omega arith) (omega arith) {top = f} {R = λ (x : Regs). rail h x < limitHz m} (buck-fits m .0) ls (λ x a q.
@@ -68,8 +71,8 @@ module _ (h : Head) {s t f : ℕ} (F : ℕ → Type 0) where
           let c2 = supply 0 (limitHz m) (supply-fits .0) p (λ x q. rw (q .0, q .1, ← e) (at-s 0 0 0 (x 15) (x 16) o)) r1 c1 in
           timed (rowOf m .ulpmcr) (timing-fits m) (λ x q. q) (delay 250 r2) (progress-delay h 250 r2 c2)
 
-      down : {top : ℕ} → limitHz m ≤ top → 48000000 < limitHz m → (r : Run) → Progress h s t f top (λ (x : Regs). F (x 5)) r →
-          Progress h s t f (limitHz m) (λ (x : Regs). F (x 5)) ((store 13 (buck m) ▸ store 14 l ▸ store 17 (rowOf m .ulpmcr) ▸ store 12 0) r)
+      down : {top : ℕ} → limitHz m ≤ top → 48000000 < limitHz m → (r : Run) → Progress h s t f top (λ (x : Regs). Other F x) r →
+          Progress h s t f (limitHz m) (λ (x : Regs). Other F x) ((store 13 (buck m) ▸ store 14 l ▸ store 17 (rowOf m .ulpmcr) ▸ store 12 0) r)
       down {top} w n r c =
           let r1 = (store 13 (buck m) ▸ store 14 l) r in
           let c1 = volts-s (buck m) l (limitHz m) (limitHz m) p p {top = top} {R = λ (x : Regs). Unit {0}} (buck-fits m .0) ls (λ x a q.
@@ -79,7 +82,7 @@ module _ (h : Head) {s t f : ℕ} (F : ℕ → Type 0) where
 
     -- the D supply, down to either row
     down-to-d : Of D0 D1 m → (l : ℕ) → ldoOf m ≡ l → fitsRegister 16 l ≡ true → limitHz m ≤ 48000000 → 0 < limitHz m → {top : ℕ} → 48000000 ≤ top → (r : Run) →
-        Progress h s t f top (λ (x : Regs). F (x 5)) r → Progress h s t f (limitHz m) (λ (x : Regs). F (x 5)) ((store 15 (buck m) ▸ store 16 l ▸ store 17 (rowOf m .ulpmcr) ▸ store 12 1) r)
+        Progress h s t f top (λ (x : Regs). Other F x) r → Progress h s t f (limitHz m) (λ (x : Regs). Other F x) ((store 15 (buck m) ▸ store 16 l ▸ store 17 (rowOf m .ulpmcr) ▸ store 12 1) r)
     down-to-d o l e ls n z {top} w r c =
         let r1 = (store 15 (buck m) ▸ store 16 l) r in
         let c1 = volts-d (buck m) l (limitHz m) (limitHz m) p p {top = top} {R = λ (x : Regs). Unit {0}} (buck-fits m .1) ls (λ x a q.
@@ -88,8 +91,8 @@ module _ (h : Head) {s t f : ℕ} (F : ℕ → Type 0) where
         (store 17 (rowOf m .ulpmcr) r1) (timed (rowOf m .ulpmcr) (timing-fits m) (λ x q. q) r1 c1)
 
   -- and up to its high row
-  up-to-d1 : 0 < f → f ≤ limitHz D1 → (r : Run) → Progress h s t f f (λ (x : Regs). F (x 5) × (rail h x < limitHz D1)) r →
-      Progress h s t f (limitHz D1) (λ (x : Regs). F (x 5)) ((s2dFirst D1 ▸ delay 250) r)
+  up-to-d1 : 0 < f → f ≤ limitHz D1 → (r : Run) → Progress h s t f f (λ (x : Regs). Other F x × (rail h x < limitHz D1)) r →
+      Progress h s t f (limitHz D1) (λ (x : Regs). Other F x) ((s2dFirst D1 ▸ delay 250) r)
   unfolding s2dFirst vrefOf
   up-to-d1 pos p r c =
       let c1 = volts-d (buck D1) (ldoOf D1) f (limitHz D1) (omega arith) p (buck-fits D1 .1) (vref-fits D1) (λ x a q.
@@ -98,7 +101,7 @@ module _ (h : Head) {s t f : ℕ} (F : ℕ → Type 0) where
 
   -- (1)
   raising-safe : (m : HpsysDvfsMode) → 0 < f → f ≤ limitHz m → 48000000 ≤ limitHz m → (r : Run) →
-      Progress h s t f f (λ (x : Regs). F (x 5) × (rail h x < limitHz m)) r → Progress h s t f (limitHz m) (λ (x : Regs). F (x 5)) (raising m r)
+      Progress h s t f f (λ (x : Regs). Other F x × (rail h x < limitHz m)) r → Progress h s t f (limitHz m) (λ (x : Regs). Other F x) (raising m r)
   unfolding d2sFirst sxModeVolt timing
   raising-safe D0 pos p wide r c = absurd (omega arith)
   raising-safe D1 pos p wide r c = up-to-d1 pos p r c
@@ -106,7 +109,7 @@ module _ (h : Head) {s t f : ℕ} (F : ℕ → Type 0) where
   raising-safe S1 pos p wide r c = up p second (ldoOf S1) refl (ldo-fits S1) r c
 
   pub raise-safe : (m : HpsysDvfsMode) → 0 < f → f ≤ limitHz m → 48000000 ≤ limitHz m → (r : Run) →
-      Progress h s t f f (λ (x : Regs). F (x 5)) r → Progress h s t f (limitHz m) (λ (x : Regs). F (x 5)) (raise m r)
+      Progress h s t f f (λ (x : Regs). Other F x) r → Progress h s t f (limitHz m) (λ (x : Regs). Other F x) (raise m r)
   unfolding raise railLimit
   raise-safe m pos p wide r c =
       progress-if h (ltb (railLimit (r .head)) (limitHz m)) (raising m) idle r
@@ -115,7 +118,7 @@ module _ (h : Head) {s t f : ℕ} (F : ℕ → Type 0) where
 
   -- (8), from rails that carry the target's mode and 48 MHz
   pub target-rails-safe : (m : HpsysDvfsMode) {top : ℕ} → f ≤ limitHz m → limitHz m ≤ top → 48000000 ≤ top → (r : Run) →
-      Progress h s t f top (λ (x : Regs). F (x 5)) r → Progress h s t f (limitHz m) (λ (x : Regs). F (x 5)) (targetRails m r)
+      Progress h s t f top (λ (x : Regs). Other F x) r → Progress h s t f (limitHz m) (λ (x : Regs). Other F x) (targetRails m r)
   unfolding s2dFirst s2dSecond sxModeVolt timing
   target-rails-safe D0 p l wide r c = down-to-d p first (vrefOf D0) refl (vref-fits D0) (omega arith) (omega arith) wide r c
   target-rails-safe D1 p l wide r c = down-to-d p second (vrefOf D1) refl (vref-fits D1) (omega arith) (omega arith) wide r c

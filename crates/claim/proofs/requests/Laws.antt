@@ -1,15 +1,12 @@
 -- From a fit head every moment of an LPSYS request is fit. Assumes nothing.
-use Prim.Native.Nat.{ℕ, zero, suc, _≤_, _<_}
-use mathlib.Core.Path.{_≡_, refl, ap, sym, _∙_}
+use Prim.Native.Nat.{ℕ, zero, suc, _≤_}
+use mathlib.Core.Path.{_≡_, refl, _∙_}
 use mathlib.Core.Bool.{Bool, true, false, false≢true, cond, _&&_, _||_}
 use mathlib.Core.List.{List}
 use native.Mathlib.Omega.{arith}
 use lib.Dec.{eqb, leb}
-use lib.ListN.{length, getD}
-use borrow.Author.Tests.{leb-true, eqb-true, le-leb, eq-eqb}
+use borrow.Author.Tests.{leb-true, eqb-true, le-leb}
 use Rattle.record.proofs.Bytes.{and-left, and-right}
-use Rattle.time.specs.declared.Reading.{Reading}
-use Rattle.time.specs.declared.Reading.the-variants.{At, Unreadable}
 use Rattle.clock.specs.Clock.{divided}
 use Rattle.register.specs.Word.{wordBytes, byteA, byteB, byteC}
 use Rattle.register.specs.Codes.{largest}
@@ -19,7 +16,7 @@ use Rattle.head.specs.Encodable.{Encodable}
 use Rattle.clock_read.specs.Hpsys.{reg, hertz, readyReading, dividedReading, sysOf, hclkOf}
 use Rattle.clock_read.proofs.Codes.{byte-most}
 use Rattle.clock_read.specs.lpsys.{sourceReading, lpsysSysOf, lpsysHclkOf}
-use Rattle.journal.specs.Run.{Run, begin}
+use Rattle.journal.specs.Run.{begin}
 use Rattle.journal.proofs.Moments.{Moments, moments-map, moments-both}
 use Rattle.fit.specs.rail.{railLimit}
 use Rattle.fit.specs.Fit.{within, sourceIsOn, lpsysFit, fits}
@@ -27,6 +24,7 @@ use Rattle.lpsys_request.specs.Request.{request}
 use Rattle.lpsys_request.specs.Safe.{lpsysHz, LpsysSafe}
 use Rattle.lpsys_request.proofs.Safe.{KeptLpsys, request-safe}
 use Rattle.claim.specs.Moment.{headWith, SafeAt}
+use Rattle.claim.proofs.changes.View.{begun}
 use Rattle.claim.proofs.requests.Coded.{Coded, Codes}
 use Rattle.claim.proofs.requests.Still.{Same, Still, request-still}
 
@@ -137,7 +135,7 @@ module _ (h : Head) (fit : fits h ≡ true) (regs : List ℕ) (kept : KeptLpsys 
 -- every moment of an LPSYS request is fit, and the head that it leaves has a record
 module _ (f : ℕ) (h : Head) (ok : Encodable h) (fit : fits h ≡ true) (p : 1 ≤ f) (q : f ≤ 48) where
   still : Still h (request f (begin h))
-  still = request-still h f p ok
+  still = request-still h (begun h fit .at) f p ok
 
   abbrev All : List ℕ → Type 0
   All regs = KeptLpsys regs × (Same h regs × Coded h regs)
@@ -153,3 +151,9 @@ module _ (f : ℕ) (h : Head) (ok : Encodable h) (fit : fits h ≡ true) (p : 1 
 
   pub request-codes : Codes h (request f (begin h))
   request-codes = still .codes
+
+  pub request-goes : request f (begin h) .stop ≡ 0
+  request-goes = still .goes
+
+  pub request-takes : request f (begin h) .taken ≡ 0
+  request-takes = still .takes
