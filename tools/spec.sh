@@ -55,13 +55,15 @@ load Load check
 booking tests Booking Release
 ## Demand 3
 lpsys_request Safe
-claim Moment Claim joined'
+claim Moment Claim joined
+## Who plays a journal
+play Play'
 
-# The crates that rikkovan and claim use, themselves included: crates.txt names each after those that it uses.
+# The crates that rikkovan, claim and play use, themselves included: crates.txt names each after those that it uses.
 used=$(awk -F: '
     !/^#/ && NF > 1 { names[++n] = $1; uses[$1] = $2 }
     END {
-        want["rikkovan"] = want["claim"] = 1
+        want["rikkovan"] = want["claim"] = want["play"] = 1
         for (i = n; i > 0; i--) if (want[names[i]]) {
             print names[i]
             count = split(uses[names[i]], below, " ")

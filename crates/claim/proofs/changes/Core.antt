@@ -208,7 +208,7 @@ module _ (h : Head) (w : ℕ) {s t f top : ℕ} where
       (dll-fit h (dllWord d) x a (q .0) (q .2), (q .0, q .1 (dllWord d) (on-word d l .on), q .2, refl)))
 
 -- a wait ends exactly if one of the answers is ready
-polled : (a : List ℕ) → stopOf (poll a) ≡ cond (oneReady a) 0 36
+pub polled : (a : List ℕ) → stopOf (poll a) ≡ cond (oneReady a) 0 36
 unfolding poll oneReady
 polled [] = refl
 polled (x ∷ a) = by (eqb x 0) (poll a) (polled a)

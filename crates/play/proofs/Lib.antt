@@ -1,0 +1,4 @@
+pub mod Plays
+pub mod Parts
+pub mod Calls
+pub mod Wait
