@@ -18,7 +18,7 @@
  */
 #define READ_MAX 4096
 
-/* Reads a file, up to READ_MAX bytes. Answers 0, or -1 with errno set. */
+/* Reads a file, up to READ_MAX bytes. Returns 0, or -1 with errno set. */
 static int read_file(const char *name, uint8_t bytes[READ_MAX], size_t *len)
 {
     FILE *file = fopen(name, "rb");
@@ -34,41 +34,41 @@ static int read_file(const char *name, uint8_t bytes[READ_MAX], size_t *len)
     return failed ? -1 : 0;
 }
 
-static void print_refusal(const char *name, int width, unsigned long number)
+static void print_refusal(const char *name, int width, enum rikkovan_refusal refusal)
 {
-    printf("%-*s  refused %2lu  %s\n", width, name, number, rikkovan_refusal_text(number));
+    printf("%-*s  refused %2d  %s\n", width, name, (int)refusal, rikkovan_refusal_text(refusal));
 }
 
-/* Prints the verdict on a plan. Answers 0 if it is accepted, else 1. */
+/* Prints the verdict on a plan. Returns 0 if it is accepted, else 1. */
 static int check_plan(const char *name, int width, const uint8_t *bytes, size_t len)
 {
-    uint64_t answer = rikkovan_plan_check(bytes, len);
+    enum rikkovan_refusal refusal = rikkovan_plan_refusal(rikkovan_plan_check(bytes, len));
 
-    if (answer != RIKKOVAN_ACCEPTED) {
-        print_refusal(name, width, (unsigned long)answer);
+    if (refusal != RIKKOVAN_NOT_REFUSED) {
+        print_refusal(name, width, refusal);
         return 1;
     }
     printf("%-*s  accepted\n", width, name);
     return 0;
 }
 
-/* Prints the verdict on a list of tasks. Answers 0 if it is accepted, else 1. */
+/* Prints the verdict on a list of tasks. Returns 0 if it is accepted, else 1. */
 static int check_tasks(const char *name, int width, const uint8_t *bytes, size_t len)
 {
-    uint64_t answer = rikkovan_load_check(bytes, len);
+    uint64_t checked = rikkovan_load_check(bytes, len);
 
-    if (RIKKOVAN_REFUSED(answer)) {
-        print_refusal(name, width, rikkovan_refusal(answer));
+    if (rikkovan_load_refusal(checked) != RIKKOVAN_NOT_REFUSED) {
+        print_refusal(name, width, rikkovan_load_refusal(checked));
         return 1;
     }
     printf("%-*s  accepted    load %lu cycles per second\n", width, name,
-           (unsigned long)rikkovan_load(answer));
+           (unsigned long)rikkovan_load(checked));
     return 0;
 }
 
 typedef int check(const char *name, int width, const uint8_t *bytes, size_t len);
 
-/* Reads a file and prints the verdict on it. Answers 0 if it is accepted, else 1. */
+/* Reads a file and prints the verdict on it. Returns 0 if it is accepted, else 1. */
 static int check_file(check *verdict, const char *name, int width)
 {
     uint8_t bytes[READ_MAX];

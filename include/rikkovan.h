@@ -10,19 +10,40 @@
  * the number is 0, and that many elements must be readable there. An array of a fixed size is lent
  * by its pointer alone. What a call writes must be writable, and must not overlap with anything
  * else that is lent to the call. Nothing else is asked of the caller: every content and every
- * length gets one answer, and every call returns.
+ * length gets one result, and every call returns.
  *
- * Every number that a caller needs has a name here, and the small functions write and read the
- * fields of records, entries and answers. They test nothing: what is put in must be in its range.
+ * A number of elements is a uint64_t and not a size_t: the library has 64-bit lengths on every
+ * chip. Where uint64_t has 32 bits, a declaration with it links, and passes half of the length.
+ *
+ * The parts of this header are refusals, plans, heads, what a call on a head returns, readings,
+ * journals, LPSYS, calibration and init, tasks, the guarded change, and the stack that calls need.
+ * The small functions make and read records, journal entries and what calls return, so that no
+ * caller needs the place of a byte. They test nothing: what is put in must be in its range. The
+ * library has the calls alone; everything else here is compiled into the caller.
+ *
+ * Calls return. The word answer is for what the chip answers when it is polled, and for the type
+ * rikkovan_answer, in which a call on a head says how it went.
  */
 #ifndef RIKKOVAN_H
 #define RIKKOVAN_H
 
-#include <stddef.h>
 #include <stdint.h>
 
 #ifdef __cplusplus
 extern "C" {
+#endif
+
+/* The version of the library. Records have versions of their own. */
+#define RIKKOVAN_LIBRARY_VERSION "0.1.0"
+#define RIKKOVAN_LIBRARY_MAJOR 0
+#define RIKKOVAN_LIBRARY_MINOR 1
+#define RIKKOVAN_LIBRARY_PATCH 0
+
+/* Of a pointer to what a call writes: nothing else that is lent overlaps with it. */
+#ifdef __cplusplus
+#define RIKKOVAN_RESTRICT
+#else
+#define RIKKOVAN_RESTRICT restrict
 #endif
 
 /* Frequencies in Hz. */
@@ -32,7 +53,82 @@ extern "C" {
 #define RIKKOVAN_LRC10_HZ 100000
 #define RIKKOVAN_LRC32_HZ 32000
 
-/* Numbers of two and four bytes stand in a record with their high byte first. */
+/*
+ * Refusals
+ * ========
+ *
+ * The number of each refusal, its name, it in words, and above it the calls that give it. Numbers
+ * 1 to 18 refuse what a call was given, and 31 to 43 the state of the head. A call makes its tests
+ * in the order that its comment says, and the first that fails is its refusal.
+ */
+#define RIKKOVAN_REFUSALS(ROW) \
+    /* every call */ \
+    ROW(1, RIKKOVAN_REFUSED_LENGTH, "a record or buffer has the wrong length") \
+    /* every call but rikkovan_load_check */ \
+    ROW(2, RIKKOVAN_REFUSED_VERSION, "the version is unknown") \
+    ROW(3, RIKKOVAN_REFUSED_CODE, "a byte holds what its field may not hold") \
+    /* calls that are lent a plan */ \
+    ROW(4, RIKKOVAN_REFUSED_CORE_DLL1, "the core is on DLL1, and DLL1 is absent") \
+    ROW(5, RIKKOVAN_REFUSED_CORE_DBL96, "the core is on DBL96, which is not supported") \
+    ROW(6, RIKKOVAN_REFUSED_MPI1, "flash 1 is on a DLL that is absent") \
+    ROW(7, RIKKOVAN_REFUSED_MPI2, "flash 2 is on a DLL that is absent") \
+    ROW(8, RIKKOVAN_REFUSED_USB_DLL2, "the USB source is DLL2, and DLL2 is absent") \
+    ROW(9, RIKKOVAN_REFUSED_USB_CLOCK, "the USB source is not a multiple of 60 MHz") \
+    ROW(10, RIKKOVAN_REFUSED_CORE_CLOCK, "the core is on DLL1, and DLL1 is below 24 MHz") \
+    ROW(11, RIKKOVAN_REFUSED_HCLK, "HCLK is above 240 MHz") \
+    ROW(12, RIKKOVAN_REFUSED_PCLK1, "PCLK1 is above 120 MHz, or above 48 MHz with HCLK at most 48 MHz") \
+    ROW(13, RIKKOVAN_REFUSED_PCLK2, "PCLK2 is above 7.5 MHz, or above 6 MHz with HCLK at most 48 MHz") \
+    ROW(14, RIKKOVAN_REFUSED_DLL2, "DLL2 before halving is above 288 MHz with HCLK above 48 MHz") \
+    /* rikkovan_config_lpsys_hclk_mhz */ \
+    ROW(15, RIKKOVAN_REFUSED_LPSYS_REQUEST, "the LPSYS request is 0 or above 48 MHz") \
+    /* rikkovan_load_check, rikkovan_book */ \
+    ROW(16, RIKKOVAN_REFUSED_TASK, "a task's id or cycles are 0, or its period is outside 1 to 10,000,000 us") \
+    /* calls that are lent a journal */ \
+    ROW(17, RIKKOVAN_REFUSED_JOURNAL, "the journal is shorter than 128 words") \
+    /* calls that are lent answers */ \
+    ROW(18, RIKKOVAN_REFUSED_ANSWERS, "there are more than 4,096 answers") \
+    /* rikkovan_calibrate_hrc48; of rikkovan_init it is a value */ \
+    ROW(31, RIKKOVAN_REFUSED_HXT48_NOT_READY, "HRC48 cannot be calibrated, since HXT48 is not ready") \
+    /* rikkovan_init */ \
+    ROW(32, RIKKOVAN_REFUSED_ON_HRC48, "init must calibrate HRC48, the core is on it, and HXT48 is not ready") \
+    /* rikkovan_calibrate_hrc48; of rikkovan_init it is a value */ \
+    ROW(33, RIKKOVAN_REFUSED_DIFFERENCE, "the calibration of HRC48 ended with a difference above 160") \
+    /* rikkovan_config_lpsys_hclk_mhz, rikkovan_wake_lcpu, rikkovan_calibrate_hrc48, */ \
+    /* rikkovan_init, rikkovan_reconfigure_sysclk, rikkovan_book */ \
+    ROW(34, RIKKOVAN_REFUSED_HCLK_UNREADABLE, "HCLK cannot be read") \
+    /* rikkovan_init, rikkovan_reconfigure_sysclk */ \
+    ROW(35, RIKKOVAN_REFUSED_PRESENT_HCLK, "the present HCLK is above 240 MHz at a supply transition") \
+    /* calls that are lent answers */ \
+    ROW(36, RIKKOVAN_REFUSED_ANSWERS_RAN_OUT, "the answers ran out in a wait or a measurement") \
+    /* rikkovan_change */ \
+    ROW(37, RIKKOVAN_REFUSED_UNFIT, "the head is not fit for a guarded change") \
+    ROW(38, RIKKOVAN_REFUSED_OSCILLATOR, "HXT48 is not ready, or HRC48 is planned and not ready") \
+    /* rikkovan_change, rikkovan_book */ \
+    ROW(39, RIKKOVAN_REFUSED_LOAD, "the load is above HCLK") \
+    /* rikkovan_load_check, rikkovan_book */ \
+    ROW(40, RIKKOVAN_REFUSED_ID_IN_USE, "a task's id is in use already") \
+    ROW(41, RIKKOVAN_REFUSED_TASKS, "there are more than sixteen tasks") \
+    /* rikkovan_release */ \
+    ROW(42, RIKKOVAN_REFUSED_ID_UNKNOWN, "no task has the id") \
+    /* rikkovan_ensure_safe_lcpu_frequency */ \
+    ROW(43, RIKKOVAN_REFUSED_LPSYS_HCLK_UNREADABLE, "the LPSYS HCLK cannot be read")
+
+#define RIKKOVAN_ENUMERATOR_(number, name, words) name = number,
+#define RIKKOVAN_TEXT_(number, name, words) case name: return words;
+
+enum rikkovan_refusal { RIKKOVAN_NOT_REFUSED = 0, RIKKOVAN_REFUSALS(RIKKOVAN_ENUMERATOR_) };
+
+/* A refusal in words: one line of text in static storage, never NULL. */
+static inline const char *rikkovan_refusal_text(enum rikkovan_refusal refusal)
+{
+    switch (refusal) {
+    case RIKKOVAN_NOT_REFUSED: return "not refused";
+    RIKKOVAN_REFUSALS(RIKKOVAN_TEXT_)
+    }
+    return "unknown number";
+}
+
+/* In records, numbers of two and four bytes stand with their high byte first. */
 static inline uint16_t rikkovan_get_16(const uint8_t *bytes)
 {
     return (uint16_t)(bytes[0] << 8 | bytes[1]);
@@ -56,8 +152,8 @@ static inline void rikkovan_put_32(uint8_t *bytes, uint32_t number)
 }
 
 /*
- * The plan record
- * ===============
+ * Plans
+ * =====
  *
  * A plan says which clocks a head is to run on. Its record is 20 bytes. The clocks of a plan are:
  *
@@ -69,29 +165,10 @@ static inline void rikkovan_put_32(uint8_t *bytes, uint32_t number)
  *   PCLK2          HCLK / 2^pdiv2 in Hz, rounded down
  */
 #define RIKKOVAN_PLAN_BYTES 20
+#define RIKKOVAN_PLAN_FOLLOWING 18 /* the length field: the bytes that follow it */
+#define RIKKOVAN_PLAN_VERSION_1 1  /* the version field */
 
-/* The offset of each field in the record, and what it may hold. */
-#define RIKKOVAN_PLAN_LENGTH 0        /* 2 bytes: 18, the bytes that follow */
-#define RIKKOVAN_PLAN_VERSION 2       /* 1 */
-#define RIKKOVAN_PLAN_CORE 3          /* core select: 0 HRC48, 1 HXT48, 2 DBL96, 3 DLL1 */
-#define RIKKOVAN_PLAN_HDIV 4          /* 0 to 255 */
-#define RIKKOVAN_PLAN_PDIV1 5         /* 0 to 7 */
-#define RIKKOVAN_PLAN_PDIV2 6         /* 0 to 7 */
-#define RIKKOVAN_PLAN_DLL1_PRESENT 7  /* 0 or 1 */
-#define RIKKOVAN_PLAN_DLL1_STAGE 8    /* 0 to 15; 0 where DLL1 is absent */
-#define RIKKOVAN_PLAN_DLL1_HALF 9     /* 0 or 1; 0 where DLL1 is absent */
-#define RIKKOVAN_PLAN_DLL2_PRESENT 10 /* 0 or 1 */
-#define RIKKOVAN_PLAN_DLL2_STAGE 11   /* 0 to 15; 0 where DLL2 is absent */
-#define RIKKOVAN_PLAN_DLL2_HALF 12    /* 0 or 1; 0 where DLL2 is absent */
-#define RIKKOVAN_PLAN_CALIBRATE 13    /* 0 or 1: whether HRC48 is to be calibrated */
-#define RIKKOVAN_PLAN_USB 14          /* 0 or 1: whether USB is to get its 60 MHz */
-#define RIKKOVAN_PLAN_WDT 15          /* watchdog clock: 0 LRC10, 1 LRC32 */
-#define RIKKOVAN_PLAN_USB_SOURCE 16   /* 0 core clock, 1 DLL2 */
-#define RIKKOVAN_PLAN_PERIPHERAL 17   /* peripheral clock: 0 HRC48, 1 HXT48 */
-#define RIKKOVAN_PLAN_MPI1 18         /* clock of flash 1: 0 peripheral clock, 1 DLL1, 2 DLL2 */
-#define RIKKOVAN_PLAN_MPI2 19         /* clock of flash 2: 0 peripheral clock, 1 DLL1, 2 DLL2 */
-
-/* The codes by name. */
+/* The codes of fields by name. */
 #define RIKKOVAN_CORE_HRC48 0
 #define RIKKOVAN_CORE_HXT48 1
 #define RIKKOVAN_CORE_DBL96 2 /* has a code, and every plan with it is refused */
@@ -110,6 +187,98 @@ static inline void rikkovan_put_32(uint8_t *bytes, uint32_t number)
 #define RIKKOVAN_MOST_PDIV 7
 #define RIKKOVAN_MOST_STAGE 15
 
+/* The fields of a plan. */
+struct rikkovan_dll {
+    uint8_t present; /* 0 or 1; where it is 0, so are the others */
+    uint8_t stage;   /* 0 to 15 */
+    uint8_t half;    /* 0 or 1 */
+};
+
+struct rikkovan_plan {
+    uint8_t core;  /* core select: RIKKOVAN_CORE_HRC48, _HXT48, _DBL96 or _DLL1 */
+    uint8_t hdiv;  /* 0 to 255 */
+    uint8_t pdiv1; /* 0 to 7 */
+    uint8_t pdiv2; /* 0 to 7 */
+    struct rikkovan_dll dll1, dll2;
+    uint8_t calibrate;  /* 0 or 1: whether HRC48 is to be calibrated */
+    uint8_t usb;        /* 0 or 1: whether USB is to get its 60 MHz */
+    uint8_t wdt;        /* watchdog clock: RIKKOVAN_WDT_LRC10 or _LRC32 */
+    uint8_t usb_source; /* RIKKOVAN_USB_CORE, the core clock, or _DLL2 */
+    uint8_t peripheral; /* peripheral clock: RIKKOVAN_PERIPHERAL_HRC48 or _HXT48 */
+    uint8_t mpi1;       /* clock of flash 1: RIKKOVAN_MPI_PERIPHERAL, _DLL1 or _DLL2 */
+    uint8_t mpi2;       /* clock of flash 2: the same */
+};
+
+/* Where each field is in the record. */
+#define RIKKOVAN_PLAN_AT_LENGTH 0 /* 2 bytes */
+#define RIKKOVAN_PLAN_AT_VERSION 2
+#define RIKKOVAN_PLAN_AT_CORE 3
+#define RIKKOVAN_PLAN_AT_HDIV 4
+#define RIKKOVAN_PLAN_AT_PDIV1 5
+#define RIKKOVAN_PLAN_AT_PDIV2 6
+#define RIKKOVAN_PLAN_AT_DLL1_PRESENT 7
+#define RIKKOVAN_PLAN_AT_DLL1_STAGE 8
+#define RIKKOVAN_PLAN_AT_DLL1_HALF 9
+#define RIKKOVAN_PLAN_AT_DLL2_PRESENT 10
+#define RIKKOVAN_PLAN_AT_DLL2_STAGE 11
+#define RIKKOVAN_PLAN_AT_DLL2_HALF 12
+#define RIKKOVAN_PLAN_AT_CALIBRATE 13
+#define RIKKOVAN_PLAN_AT_USB 14
+#define RIKKOVAN_PLAN_AT_WDT 15
+#define RIKKOVAN_PLAN_AT_USB_SOURCE 16
+#define RIKKOVAN_PLAN_AT_PERIPHERAL 17
+#define RIKKOVAN_PLAN_AT_MPI1 18
+#define RIKKOVAN_PLAN_AT_MPI2 19
+
+/* Writes a plan's record. */
+static inline void rikkovan_put_plan(uint8_t record[RIKKOVAN_PLAN_BYTES], struct rikkovan_plan plan)
+{
+    rikkovan_put_16(record + RIKKOVAN_PLAN_AT_LENGTH, RIKKOVAN_PLAN_FOLLOWING);
+    record[RIKKOVAN_PLAN_AT_VERSION] = RIKKOVAN_PLAN_VERSION_1;
+    record[RIKKOVAN_PLAN_AT_CORE] = plan.core;
+    record[RIKKOVAN_PLAN_AT_HDIV] = plan.hdiv;
+    record[RIKKOVAN_PLAN_AT_PDIV1] = plan.pdiv1;
+    record[RIKKOVAN_PLAN_AT_PDIV2] = plan.pdiv2;
+    record[RIKKOVAN_PLAN_AT_DLL1_PRESENT] = plan.dll1.present;
+    record[RIKKOVAN_PLAN_AT_DLL1_STAGE] = plan.dll1.stage;
+    record[RIKKOVAN_PLAN_AT_DLL1_HALF] = plan.dll1.half;
+    record[RIKKOVAN_PLAN_AT_DLL2_PRESENT] = plan.dll2.present;
+    record[RIKKOVAN_PLAN_AT_DLL2_STAGE] = plan.dll2.stage;
+    record[RIKKOVAN_PLAN_AT_DLL2_HALF] = plan.dll2.half;
+    record[RIKKOVAN_PLAN_AT_CALIBRATE] = plan.calibrate;
+    record[RIKKOVAN_PLAN_AT_USB] = plan.usb;
+    record[RIKKOVAN_PLAN_AT_WDT] = plan.wdt;
+    record[RIKKOVAN_PLAN_AT_USB_SOURCE] = plan.usb_source;
+    record[RIKKOVAN_PLAN_AT_PERIPHERAL] = plan.peripheral;
+    record[RIKKOVAN_PLAN_AT_MPI1] = plan.mpi1;
+    record[RIKKOVAN_PLAN_AT_MPI2] = plan.mpi2;
+}
+
+/* The fields of a plan's record. */
+static inline struct rikkovan_plan rikkovan_get_plan(const uint8_t record[RIKKOVAN_PLAN_BYTES])
+{
+    struct rikkovan_plan plan;
+
+    plan.core = record[RIKKOVAN_PLAN_AT_CORE];
+    plan.hdiv = record[RIKKOVAN_PLAN_AT_HDIV];
+    plan.pdiv1 = record[RIKKOVAN_PLAN_AT_PDIV1];
+    plan.pdiv2 = record[RIKKOVAN_PLAN_AT_PDIV2];
+    plan.dll1.present = record[RIKKOVAN_PLAN_AT_DLL1_PRESENT];
+    plan.dll1.stage = record[RIKKOVAN_PLAN_AT_DLL1_STAGE];
+    plan.dll1.half = record[RIKKOVAN_PLAN_AT_DLL1_HALF];
+    plan.dll2.present = record[RIKKOVAN_PLAN_AT_DLL2_PRESENT];
+    plan.dll2.stage = record[RIKKOVAN_PLAN_AT_DLL2_STAGE];
+    plan.dll2.half = record[RIKKOVAN_PLAN_AT_DLL2_HALF];
+    plan.calibrate = record[RIKKOVAN_PLAN_AT_CALIBRATE];
+    plan.usb = record[RIKKOVAN_PLAN_AT_USB];
+    plan.wdt = record[RIKKOVAN_PLAN_AT_WDT];
+    plan.usb_source = record[RIKKOVAN_PLAN_AT_USB_SOURCE];
+    plan.peripheral = record[RIKKOVAN_PLAN_AT_PERIPHERAL];
+    plan.mpi1 = record[RIKKOVAN_PLAN_AT_MPI1];
+    plan.mpi2 = record[RIKKOVAN_PLAN_AT_MPI2];
+    return plan;
+}
+
 /* The stage of a DLL at a frequency in MHz, before halving: a multiple of 24, 24 to 384. */
 #define RIKKOVAN_STAGE_OF(mhz) ((mhz) * RIKKOVAN_MHZ / RIKKOVAN_DLL_STEP_HZ - 1)
 
@@ -120,7 +289,7 @@ static inline uint32_t rikkovan_dll_hz(uint8_t stage, uint8_t half)
 }
 
 /*
- * The default plan, as an initialiser:
+ * The record of the default plan, as an initialiser:
  *
  *   uint8_t plan[RIKKOVAN_PLAN_BYTES] = RIKKOVAN_DEFAULT_PLAN;
  *
@@ -132,108 +301,162 @@ static inline uint32_t rikkovan_dll_hz(uint8_t stage, uint8_t half)
       0x01, 0x0B, 0x00, 0x01, 0x01, 0x01, 0x00, 0x01, 0x00, 0x02 }
 
 /*
- * What the plan check answers. The tests are made in the order of their numbers, and the first that
- * fails is the answer. Tests 8 and 9 are made only where usb is 1. Where HCLK is at most 48 MHz the
- * limits of 12 and 13 are 48 MHz and 6 MHz, and test 14 is not made.
- */
-#define RIKKOVAN_ACCEPTED 0
-#define RIKKOVAN_REFUSED_LENGTH 1      /* plan_len is not 20, or the length field is not 18 */
-#define RIKKOVAN_REFUSED_VERSION 2     /* the version is not 1 */
-#define RIKKOVAN_REFUSED_CODE 3        /* a field holds what it may not hold */
-#define RIKKOVAN_REFUSED_CORE_DLL1 4   /* the core is on DLL1, and DLL1 is absent */
-#define RIKKOVAN_REFUSED_CORE_DBL96 5  /* the core is on DBL96 */
-#define RIKKOVAN_REFUSED_MPI1 6        /* flash 1 is on a DLL that is absent */
-#define RIKKOVAN_REFUSED_MPI2 7        /* flash 2 is on a DLL that is absent */
-#define RIKKOVAN_REFUSED_USB_DLL2 8    /* the USB source is DLL2, and DLL2 is absent */
-#define RIKKOVAN_REFUSED_USB_CLOCK 9   /* the USB source is not a multiple of 60 MHz */
-#define RIKKOVAN_REFUSED_CORE_CLOCK 10 /* the core is on DLL1, and DLL1 is below 24 MHz */
-#define RIKKOVAN_REFUSED_HCLK 11       /* HCLK is above 240 MHz */
-#define RIKKOVAN_REFUSED_PCLK1 12      /* PCLK1 is above 120 MHz */
-#define RIKKOVAN_REFUSED_PCLK2 13      /* PCLK2 is above 7.5 MHz */
-#define RIKKOVAN_REFUSED_DLL2 14       /* DLL2 before halving is above 288 MHz */
-
-/*
  * Checks a plan record.
  *
  *   plan      the record; it is only read
  *   plan_len  the number of bytes at plan
  *
- * Answers RIKKOVAN_ACCEPTED, which is 0, or one of the refusal numbers 1 to 14. The answer depends
- * on these bytes and on nothing else.
+ * Returns 0 where the plan is accepted, else the number of its refusal, 1 to 14: the first of the
+ * tests that fails, in the order of their numbers. RIKKOVAN_REFUSED_LENGTH means that plan_len is
+ * not 20 or the length field is not 18, RIKKOVAN_REFUSED_VERSION that the version is not 1.
+ * RIKKOVAN_REFUSED_USB_DLL2 and RIKKOVAN_REFUSED_USB_CLOCK are tested only where usb is 1. What it
+ * returns depends on these bytes and on nothing else.
  */
-uint64_t rikkovan_plan_check(const uint8_t *plan, size_t plan_len);
+uint64_t rikkovan_plan_check(const uint8_t *plan, uint64_t plan_len);
+
+/* The refusal in what rikkovan_plan_check returns, RIKKOVAN_NOT_REFUSED for an accepted plan. */
+static inline enum rikkovan_refusal rikkovan_plan_refusal(uint64_t checked)
+{
+    return (enum rikkovan_refusal)checked;
+}
 
 /*
- * The head record
- * ===============
+ * Heads
+ * =====
  *
  * A head record is the state of a detector head: its registers, its ready flags and its booked
  * tasks. It is lent as a buffer of 255 bytes. The record stands at the front; the bytes past it may
  * hold anything, and no call looks at them.
  */
 #define RIKKOVAN_HEAD_BYTES 255
+#define RIKKOVAN_HEAD_VERSION_1 1 /* the version field */
 #define RIKKOVAN_TASK_BYTES 9
 #define RIKKOVAN_MOST_TASKS 16
+
+/* The length field of a head with so many tasks: the bytes that follow it. */
+#define RIKKOVAN_HEAD_FOLLOWING(tasks) (109 + RIKKOVAN_TASK_BYTES * (tasks))
 
 /*
  * A head with all registers and flags 0 and no task, as an initialiser:
  *
  *   uint8_t head[RIKKOVAN_HEAD_BYTES] = RIKKOVAN_EMPTY_HEAD;
  */
-#define RIKKOVAN_EMPTY_HEAD { 0, RIKKOVAN_HEAD_FOLLOWING(0), 1 }
+#define RIKKOVAN_EMPTY_HEAD { 0, RIKKOVAN_HEAD_FOLLOWING(0), RIKKOVAN_HEAD_VERSION_1 }
 
-/* The length field of a head with so many tasks: the bytes that follow it. */
-#define RIKKOVAN_HEAD_FOLLOWING(tasks) (109 + RIKKOVAN_TASK_BYTES * (tasks))
-
-/* The offset of each part in the buffer, and what it may hold. */
-#define RIKKOVAN_HEAD_LENGTH 0               /* 2 bytes: RIKKOVAN_HEAD_FOLLOWING(tasks) */
-#define RIKKOVAN_HEAD_VERSION 2              /* 1 */
-#define RIKKOVAN_HEAD_A(reg) (3 * (reg))     /* byte a of the register of a number, 1 to 34 */
-#define RIKKOVAN_HEAD_B(reg) (3 * (reg) + 1) /* byte b */
-#define RIKKOVAN_HEAD_C(reg) (3 * (reg) + 2) /* byte c */
-#define RIKKOVAN_HEAD_HXT48_READY 105        /* RIKKOVAN_READY or RIKKOVAN_NOT_READY */
-#define RIKKOVAN_HEAD_HRC48_READY 106        /* the same */
-#define RIKKOVAN_HEAD_LPSYS_HXT48_READY 107  /* the same; no frequency depends on it */
-#define RIKKOVAN_HEAD_BOOT_MODE 108          /* 0 to 255; RIKKOVAN_BOOT_STANDBY has a meaning */
-#define RIKKOVAN_HEAD_WAKE_COUNT 109         /* 0 to 255 */
-#define RIKKOVAN_HEAD_TASKS 110              /* the number of tasks, 0 to 16 */
-#define RIKKOVAN_HEAD_TASK(k) (111 + RIKKOVAN_TASK_BYTES * (k)) /* the task at place k, 0 to 15 */
+/* Where each part is in the buffer, and what it may hold. */
+#define RIKKOVAN_HEAD_AT_LENGTH 0               /* 2 bytes: RIKKOVAN_HEAD_FOLLOWING(tasks) */
+#define RIKKOVAN_HEAD_AT_VERSION 2              /* RIKKOVAN_HEAD_VERSION_1 */
+#define RIKKOVAN_HEAD_AT_A(reg) (3 * (reg))     /* byte a of the register of a number, 1 to 34 */
+#define RIKKOVAN_HEAD_AT_B(reg) (3 * (reg) + 1) /* byte b */
+#define RIKKOVAN_HEAD_AT_C(reg) (3 * (reg) + 2) /* byte c */
+#define RIKKOVAN_HEAD_AT_HXT48_READY 105        /* RIKKOVAN_READY or RIKKOVAN_NOT_READY */
+#define RIKKOVAN_HEAD_AT_HRC48_READY 106        /* the same */
+#define RIKKOVAN_HEAD_AT_LPSYS_HXT48_READY 107  /* the same; no frequency depends on it */
+#define RIKKOVAN_HEAD_AT_BOOT_MODE 108          /* 0 to 255; RIKKOVAN_BOOT_STANDBY has a meaning */
+#define RIKKOVAN_HEAD_AT_WAKE_COUNT 109         /* 0 to 255 */
+#define RIKKOVAN_HEAD_AT_TASK_COUNT 110         /* 0 to 16 */
+#define RIKKOVAN_HEAD_AT_TASK(k) (111 + RIKKOVAN_TASK_BYTES * (k)) /* the task at place k */
 
 #define RIKKOVAN_NOT_READY 0
 #define RIKKOVAN_READY 1
 #define RIKKOVAN_BOOT_STANDBY 3
 
-/* The offset of each field in a task, and what it may hold. */
-#define RIKKOVAN_TASK_ID 0     /* 1 to 255, no two tasks of a head alike */
-#define RIKKOVAN_TASK_CYCLES 1 /* 4 bytes: core cycles in each period, 1 or more */
-#define RIKKOVAN_TASK_PERIOD 5 /* 4 bytes: microseconds, 1 to RIKKOVAN_MOST_PERIOD_US */
+/* The ready flags of a head. */
+enum rikkovan_flag { RIKKOVAN_FLAG_HXT48, RIKKOVAN_FLAG_HRC48, RIKKOVAN_FLAG_LPSYS_HXT48 };
+
+static inline uint8_t rikkovan_get_flag(const uint8_t *head, enum rikkovan_flag flag)
+{
+    return head[RIKKOVAN_HEAD_AT_HXT48_READY + flag];
+}
+
+static inline void rikkovan_put_flag(uint8_t *head, enum rikkovan_flag flag, uint8_t ready)
+{
+    head[RIKKOVAN_HEAD_AT_HXT48_READY + flag] = ready;
+}
+
+static inline uint8_t rikkovan_get_boot_mode(const uint8_t *head)
+{
+    return head[RIKKOVAN_HEAD_AT_BOOT_MODE];
+}
+
+static inline void rikkovan_put_boot_mode(uint8_t *head, uint8_t mode)
+{
+    head[RIKKOVAN_HEAD_AT_BOOT_MODE] = mode;
+}
+
+static inline uint8_t rikkovan_get_wake_count(const uint8_t *head)
+{
+    return head[RIKKOVAN_HEAD_AT_WAKE_COUNT];
+}
+
+static inline void rikkovan_put_wake_count(uint8_t *head, uint8_t count)
+{
+    head[RIKKOVAN_HEAD_AT_WAKE_COUNT] = count;
+}
+
+/*
+ * A task needs so many core cycles in each period. Tasks stand in a head, and in the list that
+ * rikkovan_load_check is lent, nine bytes each, one behind the other.
+ */
+struct rikkovan_task {
+    uint8_t id;         /* 1 to 255, no two tasks alike */
+    uint32_t cycles;    /* core cycles in each period, 1 or more */
+    uint32_t period_us; /* microseconds, 1 to RIKKOVAN_MOST_PERIOD_US */
+};
 
 #define RIKKOVAN_MOST_PERIOD_US 10000000
 
-/* Writes a task's record. */
-static inline void rikkovan_put_task(uint8_t task[RIKKOVAN_TASK_BYTES], uint8_t id, uint32_t cycles,
-                                     uint32_t period_us)
+/* Where each field is in a task's bytes. */
+#define RIKKOVAN_TASK_AT_ID 0
+#define RIKKOVAN_TASK_AT_CYCLES 1 /* 4 bytes */
+#define RIKKOVAN_TASK_AT_PERIOD 5 /* 4 bytes */
+
+/* The task at a place of a list, 0 for the first; and the same written. */
+static inline struct rikkovan_task rikkovan_get_task(const uint8_t *tasks, uint32_t place)
 {
-    task[RIKKOVAN_TASK_ID] = id;
-    rikkovan_put_32(task + RIKKOVAN_TASK_CYCLES, cycles);
-    rikkovan_put_32(task + RIKKOVAN_TASK_PERIOD, period_us);
+    const uint8_t *bytes = tasks + RIKKOVAN_TASK_BYTES * place;
+    struct rikkovan_task task;
+
+    task.id = bytes[RIKKOVAN_TASK_AT_ID];
+    task.cycles = rikkovan_get_32(bytes + RIKKOVAN_TASK_AT_CYCLES);
+    task.period_us = rikkovan_get_32(bytes + RIKKOVAN_TASK_AT_PERIOD);
+    return task;
 }
 
-static inline uint32_t rikkovan_task_cycles(const uint8_t task[RIKKOVAN_TASK_BYTES])
+static inline void rikkovan_put_task(uint8_t *tasks, uint32_t place, struct rikkovan_task task)
 {
-    return rikkovan_get_32(task + RIKKOVAN_TASK_CYCLES);
+    uint8_t *bytes = tasks + RIKKOVAN_TASK_BYTES * place;
+
+    bytes[RIKKOVAN_TASK_AT_ID] = task.id;
+    rikkovan_put_32(bytes + RIKKOVAN_TASK_AT_CYCLES, task.cycles);
+    rikkovan_put_32(bytes + RIKKOVAN_TASK_AT_PERIOD, task.period_us);
 }
 
-static inline uint32_t rikkovan_task_period_us(const uint8_t task[RIKKOVAN_TASK_BYTES])
+/* The number of a head's tasks; and it written, with the length field that fits it. */
+static inline uint8_t rikkovan_get_task_count(const uint8_t *head)
 {
-    return rikkovan_get_32(task + RIKKOVAN_TASK_PERIOD);
+    return head[RIKKOVAN_HEAD_AT_TASK_COUNT];
 }
 
-/* Writes the number of a head's tasks, and the length field that fits it. */
 static inline void rikkovan_put_task_count(uint8_t *head, uint8_t tasks)
 {
-    head[RIKKOVAN_HEAD_TASKS] = tasks;
-    rikkovan_put_16(head + RIKKOVAN_HEAD_LENGTH, (uint16_t)RIKKOVAN_HEAD_FOLLOWING(tasks));
+    head[RIKKOVAN_HEAD_AT_TASK_COUNT] = tasks;
+    rikkovan_put_16(head + RIKKOVAN_HEAD_AT_LENGTH, (uint16_t)RIKKOVAN_HEAD_FOLLOWING(tasks));
+}
+
+/* The task at a place of a head, below the number of its tasks. */
+static inline struct rikkovan_task rikkovan_get_head_task(const uint8_t *head, uint32_t place)
+{
+    return rikkovan_get_task(head + RIKKOVAN_HEAD_AT_TASK(0), place);
+}
+
+/* Puts a task behind the last one of a head. rikkovan_book does the same where HCLK carries it. */
+static inline void rikkovan_add_head_task(uint8_t *head, struct rikkovan_task task)
+{
+    uint8_t count = rikkovan_get_task_count(head);
+
+    rikkovan_put_task(head + RIKKOVAN_HEAD_AT_TASK(0), count, task);
+    rikkovan_put_task_count(head, (uint8_t)(count + 1));
 }
 
 /*
@@ -296,27 +519,43 @@ static inline void rikkovan_put_task_count(uint8_t *head, uint8_t tasks)
 #define RIKKOVAN_MOST_VOLTAGE 15 /* of registers 13 to 16, 29 and 30 */
 #define RIKKOVAN_MOST_TRIM 1023
 
-/* What a register holds, as one number; and the same read from a head and written into it. */
+/* What a register holds, as one number; and its bytes taken out of it. */
 #define RIKKOVAN_VALUE(a, b, c) ((uint32_t)(a) << 16 | (uint32_t)(b) << 8 | (uint32_t)(c))
 
-static inline uint32_t rikkovan_register(const uint8_t *head, uint32_t reg)
+static inline uint8_t rikkovan_value_a(uint32_t value)
 {
-    return RIKKOVAN_VALUE(head[RIKKOVAN_HEAD_A(reg)], head[RIKKOVAN_HEAD_B(reg)],
-                          head[RIKKOVAN_HEAD_C(reg)]);
+    return (uint8_t)(value >> 16 & 0xFF);
+}
+
+static inline uint8_t rikkovan_value_b(uint32_t value)
+{
+    return (uint8_t)(value >> 8 & 0xFF);
+}
+
+static inline uint8_t rikkovan_value_c(uint32_t value)
+{
+    return (uint8_t)(value & 0xFF);
+}
+
+/* What a register of a head holds, such a number; and the same written. */
+static inline uint32_t rikkovan_get_register(const uint8_t *head, uint32_t reg)
+{
+    return RIKKOVAN_VALUE(head[RIKKOVAN_HEAD_AT_A(reg)], head[RIKKOVAN_HEAD_AT_B(reg)],
+                          head[RIKKOVAN_HEAD_AT_C(reg)]);
 }
 
 static inline void rikkovan_put_register(uint8_t *head, uint32_t reg, uint32_t value)
 {
-    head[RIKKOVAN_HEAD_A(reg)] = (uint8_t)(value >> 16 & 0xFF);
-    head[RIKKOVAN_HEAD_B(reg)] = (uint8_t)(value >> 8 & 0xFF);
-    head[RIKKOVAN_HEAD_C(reg)] = (uint8_t)(value & 0xFF);
+    head[RIKKOVAN_HEAD_AT_A(reg)] = rikkovan_value_a(value);
+    head[RIKKOVAN_HEAD_AT_B(reg)] = rikkovan_value_b(value);
+    head[RIKKOVAN_HEAD_AT_C(reg)] = rikkovan_value_c(value);
 }
 
 /*
- * What a call on a head answers
+ * What a call on a head returns
  * =============================
  *
- * One word of 64 bits:
+ * A rikkovan_answer, which the functions below take apart. Its word of 64 bits has
  *
  *   bits 0 to 31   the refusal number where the call is refused, else the call's value
  *   bits 32 to 47  the number of journal entries written
@@ -333,38 +572,59 @@ static inline void rikkovan_put_register(uint8_t *head, uint32_t reg, uint32_t v
  *   RIKKOVAN_REFUSED_VERSION  the version is not 1
  *   RIKKOVAN_REFUSED_CODE     a register, ready flag or task holds what it may not hold, or two
  *                             tasks have one id
+ *
+ * The library returns the word, and so the calls are declared with uint64_t. At the end of this
+ * header a macro for each, of the same name, makes the word an answer, so that it is not taken for
+ * what rikkovan_plan_check or rikkovan_load_check returns. The calls cannot be declared to return
+ * the struct: 32-bit ARM returns a word in registers, and a struct of 8 bytes in memory. A pointer
+ * to a call, which no macro replaces, gives the word.
  */
+typedef struct rikkovan_answer {
+    uint64_t word;
+} rikkovan_answer;
 
-/* Whether the call is refused: 0 or 1. */
-#define RIKKOVAN_REFUSED(word) ((word) >> 63 != 0)
-
-/* The refusal number, 0 where the call is not refused. */
-static inline uint32_t rikkovan_refusal(uint64_t word)
+static inline rikkovan_answer rikkovan_answer_of(uint64_t word)
 {
-    return RIKKOVAN_REFUSED(word) ? (uint32_t)(word & 0xFFFFFFFF) : 0;
+    rikkovan_answer answer;
+
+    answer.word = word;
+    return answer;
+}
+
+/* Whether the call is done, and not refused: 0 or 1. */
+static inline int rikkovan_done(rikkovan_answer answer)
+{
+    return answer.word >> 63 == 0;
+}
+
+/* The refusal, RIKKOVAN_NOT_REFUSED where the call is done. */
+static inline enum rikkovan_refusal rikkovan_refusal(rikkovan_answer answer)
+{
+    return rikkovan_done(answer) ? RIKKOVAN_NOT_REFUSED
+                                 : (enum rikkovan_refusal)(answer.word & 0xFFFFFFFF);
 }
 
 /* The call's value, 0 where the call is refused. */
-static inline uint32_t rikkovan_value(uint64_t word)
+static inline uint32_t rikkovan_value(rikkovan_answer answer)
 {
-    return RIKKOVAN_REFUSED(word) ? 0 : (uint32_t)(word & 0xFFFFFFFF);
+    return rikkovan_done(answer) ? (uint32_t)(answer.word & 0xFFFFFFFF) : 0;
 }
 
 /* The number of journal entries written. */
-static inline uint32_t rikkovan_entries(uint64_t word)
+static inline uint32_t rikkovan_entries(rikkovan_answer answer)
 {
-    return (uint32_t)(word >> 32 & 0xFFFF);
+    return (uint32_t)(answer.word >> 32 & 0xFFFF);
 }
 
 /* The number of answers taken. */
-static inline uint32_t rikkovan_taken(uint64_t word)
+static inline uint32_t rikkovan_taken(rikkovan_answer answer)
 {
-    return (uint32_t)(word >> 48 & 0x7FFF);
+    return (uint32_t)(answer.word >> 48 & 0x7FFF);
 }
 
 /*
- * The readings
- * ============
+ * Readings
+ * ========
  *
  * A reading gives frequencies in Hz, 0 for none. The clocks of a head are:
  *
@@ -412,11 +672,10 @@ enum rikkovan_lpsys_clock {
  *   clocks    gets the frequencies, by the index of enum rikkovan_clock; left as it was where the
  *             call is refused
  *
- * Answers 0, or a word with the refusal 1, 2 or 3. Word and frequencies depend on these bytes and
- * on nothing else.
+ * Refusals: the head's. Answer and frequencies depend on these bytes and on nothing else.
  */
-uint64_t rikkovan_read_clocks(const uint8_t *head, size_t head_len,
-                              uint32_t clocks[RIKKOVAN_CLOCKS]);
+uint64_t rikkovan_read_clocks(const uint8_t *head, uint64_t head_len,
+                              uint32_t clocks[RIKKOVAN_RESTRICT RIKKOVAN_CLOCKS]);
 
 /*
  * Reads the six frequencies of a head's low-power system, LPSYS.
@@ -426,18 +685,18 @@ uint64_t rikkovan_read_clocks(const uint8_t *head, size_t head_len,
  *   lpsys     gets the frequencies, by the index of enum rikkovan_lpsys_clock; left as it was where
  *             the call is refused
  *
- * Answers as rikkovan_read_clocks does.
+ * Refusals: the head's.
  */
-uint64_t rikkovan_read_lpsys(const uint8_t *head, size_t head_len,
-                             uint32_t lpsys[RIKKOVAN_LPSYS_CLOCKS]);
+uint64_t rikkovan_read_lpsys(const uint8_t *head, uint64_t head_len,
+                             uint32_t lpsys[RIKKOVAN_RESTRICT RIKKOVAN_LPSYS_CLOCKS]);
 
 /*
- * The journal
- * ===========
+ * Journals
+ * ========
  *
- * A call that changes a head makes its stores in the lent buffer, and writes each store and each
- * delay as an entry into a lent journal, in the order in which they come. Entries go to the front
- * of the journal; the words past the last one keep what they held. An entry is
+ * A call that changes a head makes its stores in the lent buffer, and writes each store, each delay
+ * and each wait that ended into a lent journal, as entries in the order in which they come. They go
+ * to the front of the journal; the words past the last one keep what they held. An entry is
  *
  *   number * 2^24 + value
  *
@@ -446,23 +705,32 @@ uint64_t rikkovan_read_lpsys(const uint8_t *head, size_t head_len,
  *   1 to 34   a register, and what it holds after the store, as RIKKOVAN_VALUE has it
  *   48        a delay, and its length in core cycles: microseconds times the HCLK of that moment
  *             in Hz, divided by 1,000,000, rounded down
+ *   49        a wait that ended, and its kind * 65,536 + the number of answers that it took
  *
  * A store that does not change the register has its entry all the same.
  *
  * Such a call makes its tests in this order, and the first that fails refuses it: the length of the
- * journal, the head (1, 2, 3), then the call's own. Refusals 32 to 36 come up on the way, as
- * RIKKOVAN_REFUSED_HCLK_UNREADABLE at a delay: the stores before them stay in head and journal, and
- * the word counts their entries. Every other refusal leaves head and journal as they were, and
- * counts no entries.
+ * journal, the number of answers, the head (1, 2, 3), then the call's own. Refusals 32 to 36 come
+ * up on the way, as RIKKOVAN_REFUSED_HCLK_UNREADABLE at a delay: the stores before them stay in head
+ * and journal, and the answer counts their entries. Every other refusal leaves head and journal as
+ * they were, and counts no entries.
  *
  * Of a head, a call changes just what its comment says, and no byte past the record, but for a
  * booking, which puts its task there.
+ *
+ * No call can do without a journal: a shorter one than this is refused RIKKOVAN_REFUSED_JOURNAL.
  */
 #define RIKKOVAN_JOURNAL_WORDS 128 /* the fewest words of a journal */
-#define RIKKOVAN_ENTRY_DELAY 48    /* the number of a delay */
 
-#define RIKKOVAN_REFUSED_JOURNAL 17         /* journal_len is below 128 */
-#define RIKKOVAN_REFUSED_HCLK_UNREADABLE 34 /* HCLK reads as none at a delay or a booking */
+#define RIKKOVAN_ENTRY_DELAY 48 /* the number of a delay */
+#define RIKKOVAN_ENTRY_WAIT 49  /* the number of a wait that ended */
+
+/* Entries, made: of a number and a value; a store, a delay, a wait. */
+#define RIKKOVAN_ENTRY(number, value) ((uint32_t)(number) << 24 | (uint32_t)(value))
+#define RIKKOVAN_STORE(reg, value) RIKKOVAN_ENTRY(reg, value)
+#define RIKKOVAN_DELAY(cycles) RIKKOVAN_ENTRY(RIKKOVAN_ENTRY_DELAY, cycles)
+#define RIKKOVAN_WAIT(kind, taken) \
+    RIKKOVAN_ENTRY(RIKKOVAN_ENTRY_WAIT, (uint32_t)(kind) << 16 | (uint32_t)(taken))
 
 /* The number of an entry: a register, RIKKOVAN_ENTRY_DELAY or RIKKOVAN_ENTRY_WAIT. */
 static inline uint32_t rikkovan_entry_number(uint32_t entry)
@@ -470,21 +738,39 @@ static inline uint32_t rikkovan_entry_number(uint32_t entry)
     return entry >> 24;
 }
 
-/* The value of an entry. */
+/* The value of an entry: what the register holds, or the cycles of a delay. */
 static inline uint32_t rikkovan_entry_value(uint32_t entry)
 {
     return entry & 0xFFFFFF;
 }
 
-/* An entry, from its number and value. */
-#define RIKKOVAN_ENTRY(number, value) ((uint32_t)(number) << 24 | (uint32_t)(value))
-
-/* Whether an entry is a store: 0 or 1. */
+/* Whether an entry is a store, a delay, a wait: 0 or 1. */
 static inline int rikkovan_is_store(uint32_t entry)
 {
     uint32_t number = rikkovan_entry_number(entry);
 
     return number >= 1 && number <= RIKKOVAN_REGISTERS;
+}
+
+static inline int rikkovan_is_delay(uint32_t entry)
+{
+    return rikkovan_entry_number(entry) == RIKKOVAN_ENTRY_DELAY;
+}
+
+static inline int rikkovan_is_wait(uint32_t entry)
+{
+    return rikkovan_entry_number(entry) == RIKKOVAN_ENTRY_WAIT;
+}
+
+/* Of a wait: its kind, and the number of answers that it took. */
+static inline uint32_t rikkovan_wait_kind(uint32_t entry)
+{
+    return rikkovan_entry_value(entry) >> 16;
+}
+
+static inline uint32_t rikkovan_wait_taken(uint32_t entry)
+{
+    return entry & 0xFFFF;
 }
 
 /*
@@ -498,6 +784,40 @@ static inline void rikkovan_put_entry(uint8_t *head, uint32_t entry)
 }
 
 /*
+ * Answers
+ * =======
+ *
+ * A call that waits for the chip is lent answers, each the reading of one poll: RIKKOVAN_NOT_READY,
+ * which is 0, or any other for ready. A wait takes them in turn, up to the first that is ready, and
+ * the next wait goes on behind it. A wait of kind RIKKOVAN_WAIT_CALIBRATION is a measurement: it
+ * takes two more answers behind the one that is ready, hxt_cnt and hrc_cnt, and its number counts
+ * them too.
+ *
+ * If the answers run out in a wait or a measurement, RIKKOVAN_REFUSED_ANSWERS_RAN_OUT keeps what
+ * was done so far, as RIKKOVAN_REFUSED_HCLK_UNREADABLE does. The wait has no entry then, and all
+ * answers count as taken.
+ */
+#define RIKKOVAN_MOST_ANSWERS 4096 /* the most answers that may be lent */
+
+/* The kinds of waits. */
+#define RIKKOVAN_WAIT_HXT48 1
+#define RIKKOVAN_WAIT_LPSYS_HXT48 2
+#define RIKKOVAN_WAIT_DLL1 3
+#define RIKKOVAN_WAIT_DLL2 4
+#define RIKKOVAN_WAIT_CALIBRATION 5
+#define RIKKOVAN_WAIT_LPSYS_ACTIVE 6
+
+/* No answers, in place of the two arguments answers and answers_len. */
+#define RIKKOVAN_NO_ANSWERS rikkovan_no_answers(), 0
+
+static inline const uint16_t *rikkovan_no_answers(void)
+{
+    static const uint16_t never_read = RIKKOVAN_NOT_READY;
+
+    return &never_read;
+}
+
+/*
  * LPSYS
  * =====
  *
@@ -506,8 +826,6 @@ static inline void rikkovan_put_entry(uint8_t *head, uint32_t entry)
  */
 #define RIKKOVAN_LPSYS_MOST_MHZ 48                   /* the highest request */
 #define RIKKOVAN_LPSYS_D_MOST_HZ (24 * RIKKOVAN_MHZ) /* the highest LPSYS HCLK on supply D */
-
-#define RIKKOVAN_REFUSED_LPSYS_REQUEST 15 /* freq_mhz is 0 or above 48 */
 
 /*
  * Sets the LPSYS HCLK to a frequency, and its supply with it.
@@ -534,10 +852,9 @@ static inline void rikkovan_put_entry(uint8_t *head, uint32_t entry)
  * they change nothing. Upwards RIKKOVAN_REFUSED_HCLK_UNREADABLE, which keeps the two stores before
  * the delay.
  */
-uint64_t rikkovan_config_lpsys_hclk_mhz(uint8_t *head, size_t head_len, uint32_t freq_mhz,
-                                        uint32_t *journal, size_t journal_len);
-
-#define RIKKOVAN_REFUSED_LPSYS_HCLK_UNREADABLE 43 /* the LPSYS HCLK reads as none */
+uint64_t rikkovan_config_lpsys_hclk_mhz(uint8_t *RIKKOVAN_RESTRICT head, uint64_t head_len,
+                                        uint32_t freq_mhz, uint32_t *RIKKOVAN_RESTRICT journal,
+                                        uint64_t journal_len);
 
 /*
  * Brings the LPSYS HCLK down to 24 MHz where it is above, as a request of 24 MHz does. Else it
@@ -550,8 +867,9 @@ uint64_t rikkovan_config_lpsys_hclk_mhz(uint8_t *head, size_t head_len, uint32_t
  * Refusals, in this order: RIKKOVAN_REFUSED_JOURNAL, the head's,
  * RIKKOVAN_REFUSED_LPSYS_HCLK_UNREADABLE; they change nothing.
  */
-uint64_t rikkovan_ensure_safe_lcpu_frequency(uint8_t *head, size_t head_len, uint32_t *journal,
-                                             size_t journal_len);
+uint64_t rikkovan_ensure_safe_lcpu_frequency(uint8_t *RIKKOVAN_RESTRICT head, uint64_t head_len,
+                                             uint32_t *RIKKOVAN_RESTRICT journal,
+                                             uint64_t journal_len);
 
 /*
  * Sets fields of LPSYS, with one store each.
@@ -567,16 +885,20 @@ uint64_t rikkovan_ensure_safe_lcpu_frequency(uint8_t *head, size_t head_len, uin
  * Refusals, in this order: RIKKOVAN_REFUSED_JOURNAL, the head's, and RIKKOVAN_REFUSED_CODE for a
  * pdiv1 or pdiv2 above 7 or a source above 1; they change nothing.
  */
-uint64_t rikkovan_set_lpsys_hdiv(uint8_t *head, size_t head_len, uint8_t hdiv, uint32_t *journal,
-                                 size_t journal_len);
-uint64_t rikkovan_set_lpsys_div(uint8_t *head, size_t head_len, uint8_t hdiv, uint8_t pdiv1,
-                                uint8_t pdiv2, uint32_t *journal, size_t journal_len);
-uint64_t rikkovan_config_lpsys_mac_clock(uint8_t *head, size_t head_len, uint8_t macdiv,
-                                         uint8_t macfreq, uint32_t *journal, size_t journal_len);
-uint64_t rikkovan_select_lpsys_sysclk(uint8_t *head, size_t head_len, uint8_t source,
-                                      uint32_t *journal, size_t journal_len);
-uint64_t rikkovan_select_lpsys_peri(uint8_t *head, size_t head_len, uint8_t source,
-                                    uint32_t *journal, size_t journal_len);
+uint64_t rikkovan_set_lpsys_hdiv(uint8_t *RIKKOVAN_RESTRICT head, uint64_t head_len, uint8_t hdiv,
+                                 uint32_t *RIKKOVAN_RESTRICT journal, uint64_t journal_len);
+uint64_t rikkovan_set_lpsys_div(uint8_t *RIKKOVAN_RESTRICT head, uint64_t head_len, uint8_t hdiv,
+                                uint8_t pdiv1, uint8_t pdiv2, uint32_t *RIKKOVAN_RESTRICT journal,
+                                uint64_t journal_len);
+uint64_t rikkovan_config_lpsys_mac_clock(uint8_t *RIKKOVAN_RESTRICT head, uint64_t head_len,
+                                         uint8_t macdiv, uint8_t macfreq,
+                                         uint32_t *RIKKOVAN_RESTRICT journal, uint64_t journal_len);
+uint64_t rikkovan_select_lpsys_sysclk(uint8_t *RIKKOVAN_RESTRICT head, uint64_t head_len,
+                                      uint8_t source, uint32_t *RIKKOVAN_RESTRICT journal,
+                                      uint64_t journal_len);
+uint64_t rikkovan_select_lpsys_peri(uint8_t *RIKKOVAN_RESTRICT head, uint64_t head_len,
+                                    uint8_t source, uint32_t *RIKKOVAN_RESTRICT journal,
+                                    uint64_t journal_len);
 
 /*
  * Cancels one wake: the wake count goes down by 1, from 0 to 255. Where it was 1, HP2LP_REQUEST is
@@ -586,53 +908,9 @@ uint64_t rikkovan_select_lpsys_peri(uint8_t *head, size_t head_len, uint8_t sour
  *
  * Refusals, in this order: RIKKOVAN_REFUSED_JOURNAL, the head's; they change nothing.
  */
-uint64_t rikkovan_cancel_lcpu_active_request(uint8_t *head, size_t head_len, uint32_t *journal,
-                                             size_t journal_len);
-
-/*
- * The answers
- * ===========
- *
- * A call that waits for the chip is lent answers, each the reading of one poll: RIKKOVAN_NOT_READY,
- * which is 0, or any other for ready. A wait takes them in turn, up to the first that is ready, and
- * the next wait goes on behind it. A wait that ended is an entry of number 49 whose value is
- *
- *   kind * 65,536 + the number of answers that this wait took
- *
- * A wait of kind RIKKOVAN_WAIT_CALIBRATION is a measurement: it takes two more answers behind the
- * one that is ready, hxt_cnt and hrc_cnt, and its number counts them too.
- *
- * The length of the answers is tested after that of the journal, before the head. If the answers
- * run out in a wait or a measurement, RIKKOVAN_REFUSED_ANSWERS_RAN_OUT keeps what was done so far,
- * as RIKKOVAN_REFUSED_HCLK_UNREADABLE does. The wait has no entry then, and all answers count as
- * taken.
- */
-#define RIKKOVAN_MOST_ANSWERS 4096 /* the most answers that may be lent */
-#define RIKKOVAN_ENTRY_WAIT 49     /* the number of a wait that ended */
-
-/* The kinds of waits. */
-#define RIKKOVAN_WAIT_HXT48 1
-#define RIKKOVAN_WAIT_LPSYS_HXT48 2
-#define RIKKOVAN_WAIT_DLL1 3
-#define RIKKOVAN_WAIT_DLL2 4
-#define RIKKOVAN_WAIT_CALIBRATION 5
-#define RIKKOVAN_WAIT_LPSYS_ACTIVE 6
-
-/* The value of a wait's entry, and what a wait's entry tells: its kind, the answers it took. */
-#define RIKKOVAN_WAIT_VALUE(kind, taken) ((uint32_t)(kind) << 16 | (uint32_t)(taken))
-
-static inline uint32_t rikkovan_wait_kind(uint32_t entry)
-{
-    return rikkovan_entry_value(entry) >> 16;
-}
-
-static inline uint32_t rikkovan_wait_taken(uint32_t entry)
-{
-    return entry & 0xFFFF;
-}
-
-#define RIKKOVAN_REFUSED_ANSWERS 18         /* answers_len is above 4,096 */
-#define RIKKOVAN_REFUSED_ANSWERS_RAN_OUT 36 /* no answer is left, and the wait has not ended */
+uint64_t rikkovan_cancel_lcpu_active_request(uint8_t *RIKKOVAN_RESTRICT head, uint64_t head_len,
+                                             uint32_t *RIKKOVAN_RESTRICT journal,
+                                             uint64_t journal_len);
 
 /*
  * Wakes the core of LPSYS: stores HP2LP_REQUEST as 1; a delay of 230 us and a wait of kind
@@ -647,8 +925,9 @@ static inline uint32_t rikkovan_wait_taken(uint32_t entry)
  * change nothing. With the stores made so far kept, RIKKOVAN_REFUSED_HCLK_UNREADABLE and
  * RIKKOVAN_REFUSED_ANSWERS_RAN_OUT. A refusal leaves the wake count as it was.
  */
-uint64_t rikkovan_wake_lcpu(uint8_t *head, size_t head_len, uint32_t *journal, size_t journal_len,
-                            const uint16_t *answers, size_t answers_len);
+uint64_t rikkovan_wake_lcpu(uint8_t *RIKKOVAN_RESTRICT head, uint64_t head_len,
+                            uint32_t *RIKKOVAN_RESTRICT journal, uint64_t journal_len,
+                            const uint16_t *answers, uint64_t answers_len);
 
 /*
  * Makes HXT48 ready for both systems: where its ready flag is 0, stores HXT48_REQUEST as 1, and
@@ -663,9 +942,9 @@ uint64_t rikkovan_wake_lcpu(uint8_t *head, size_t head_len, uint32_t *journal, s
  * change nothing. RIKKOVAN_REFUSED_ANSWERS_RAN_OUT keeps the stores made so far, and a flag that
  * was set before it.
  */
-uint64_t rikkovan_ensure_hxt48_ready(uint8_t *head, size_t head_len, uint32_t *journal,
-                                     size_t journal_len, const uint16_t *answers,
-                                     size_t answers_len);
+uint64_t rikkovan_ensure_hxt48_ready(uint8_t *RIKKOVAN_RESTRICT head, uint64_t head_len,
+                                     uint32_t *RIKKOVAN_RESTRICT journal, uint64_t journal_len,
+                                     const uint16_t *answers, uint64_t answers_len);
 
 /*
  * Calibration, init and reconfigure
@@ -675,11 +954,6 @@ uint64_t rikkovan_ensure_hxt48_ready(uint8_t *head, size_t head_len, uint32_t *j
  * rikkovan_reconfigure_sysclk when it runs. The plan's tests come after those of the head, and give
  * the refusal that rikkovan_plan_check answers.
  */
-#define RIKKOVAN_REFUSED_HXT48_NOT_READY 31 /* HRC48 is to be calibrated, HXT48 is not ready */
-#define RIKKOVAN_REFUSED_ON_HRC48 32        /* the same in init, with the core on HRC48 */
-#define RIKKOVAN_REFUSED_DIFFERENCE 33      /* the last counts differ by more than 160 */
-#define RIKKOVAN_REFUSED_PRESENT_HCLK 35    /* the HCLK before the change is above 240 MHz */
-
 /*
  * An HCLK has a mode: the first of these whose highest HCLK it does not exceed. A mode has three
  * values for its supply, D or S: buck, in SET_VOUT_M of D or BUCK_VOUT of S; ldo, in HPSYS_LDO of D
@@ -722,8 +996,9 @@ uint64_t rikkovan_ensure_hxt48_ready(uint8_t *head, size_t head_len, uint32_t *j
  * RIKKOVAN_REFUSED_HCLK_UNREADABLE, RIKKOVAN_REFUSED_ANSWERS_RAN_OUT, and at the end
  * RIKKOVAN_REFUSED_DIFFERENCE, where the counts of the last turn differ by more than 160.
  */
-uint64_t rikkovan_calibrate_hrc48(uint8_t *head, size_t head_len, uint32_t *journal,
-                                  size_t journal_len, const uint16_t *answers, size_t answers_len);
+uint64_t rikkovan_calibrate_hrc48(uint8_t *RIKKOVAN_RESTRICT head, uint64_t head_len,
+                                  uint32_t *RIKKOVAN_RESTRICT journal, uint64_t journal_len,
+                                  const uint16_t *answers, uint64_t answers_len);
 
 /*
  * Brings up the clocks of a head that boots, as a plan has them.
@@ -760,9 +1035,16 @@ uint64_t rikkovan_calibrate_hrc48(uint8_t *head, size_t head_len, uint32_t *jour
  * RIKKOVAN_REFUSED_PRESENT_HCLK at step 4, RIKKOVAN_REFUSED_HCLK_UNREADABLE and
  * RIKKOVAN_REFUSED_ANSWERS_RAN_OUT.
  */
-uint64_t rikkovan_init(uint8_t *head, size_t head_len, const uint8_t *plan, size_t plan_len,
-                       uint32_t clocks[RIKKOVAN_CLOCKS], uint32_t *journal, size_t journal_len,
-                       const uint16_t *answers, size_t answers_len);
+uint64_t rikkovan_init(uint8_t *RIKKOVAN_RESTRICT head, uint64_t head_len, const uint8_t *plan,
+                       uint64_t plan_len, uint32_t clocks[RIKKOVAN_RESTRICT RIKKOVAN_CLOCKS],
+                       uint32_t *RIKKOVAN_RESTRICT journal, uint64_t journal_len,
+                       const uint16_t *answers, uint64_t answers_len);
+
+/* Why a done init left HRC48 uncalibrated, RIKKOVAN_NOT_REFUSED where it did not. */
+static inline enum rikkovan_refusal rikkovan_uncalibrated(rikkovan_answer answer)
+{
+    return (enum rikkovan_refusal)rikkovan_value(answer);
+}
 
 /*
  * Sets the core clock of a running head as a plan has it, and its supply with it. Of the plan, core
@@ -794,48 +1076,59 @@ uint64_t rikkovan_init(uint8_t *head, size_t head_len, const uint8_t *plan, size
  * nothing. With what was done so far kept in head and journal, RIKKOVAN_REFUSED_HCLK_UNREADABLE and
  * RIKKOVAN_REFUSED_ANSWERS_RAN_OUT.
  */
-uint64_t rikkovan_reconfigure_sysclk(uint8_t *head, size_t head_len, const uint8_t *plan,
-                                     size_t plan_len, uint32_t clocks[RIKKOVAN_CLOCKS],
-                                     uint32_t *journal, size_t journal_len,
-                                     const uint16_t *answers, size_t answers_len);
+uint64_t rikkovan_reconfigure_sysclk(uint8_t *RIKKOVAN_RESTRICT head, uint64_t head_len,
+                                     const uint8_t *plan, uint64_t plan_len,
+                                     uint32_t clocks[RIKKOVAN_RESTRICT RIKKOVAN_CLOCKS],
+                                     uint32_t *RIKKOVAN_RESTRICT journal, uint64_t journal_len,
+                                     const uint16_t *answers, uint64_t answers_len);
 
 /*
  * Tasks
  * =====
  *
- * A task needs so many core cycles in each period. Its record is the nine bytes that it has in a
- * head, as rikkovan_put_task writes them. Its share is what it needs in a second,
+ * The share of a task is what it needs in a second,
  *
  *   cycles * 1,000,000 / period, rounded up
  *
  * and the load of several tasks is the sum of their shares, in cycles per second. It can be carried
  * by an HCLK of that many Hz or more.
  */
-#define RIKKOVAN_REFUSED_TASK 16       /* id or cycles 0, or period outside 1 to 10,000,000 us */
-#define RIKKOVAN_REFUSED_LOAD 39       /* the load is above HCLK */
-#define RIKKOVAN_REFUSED_ID_IN_USE 40  /* another task has the id */
-#define RIKKOVAN_REFUSED_TASKS 41      /* there are more than 16 tasks */
-#define RIKKOVAN_REFUSED_ID_UNKNOWN 42 /* no task has the id */
 
 /*
  * Checks a list of tasks, and gives its load.
  *
- *   tasks      the records, one behind the other; they are only read
+ *   tasks      the tasks, as rikkovan_put_task writes them; they are only read
  *   tasks_len  the number of bytes at tasks, nine for each task; 0 for no task, whose load is 0
  *
- * Answers the load, or the refusal number with bit 63 set: RIKKOVAN_REFUSED and rikkovan_refusal
- * take it, and rikkovan_load. No load has bit 63; the largest is 68,719,476,720,000,000. The answer
- * depends on these bytes and on nothing else.
+ * Returns the load, or the refusal number with bit 63 set. No load has bit 63; the largest is
+ * 68,719,476,720,000,000. What it returns depends on these bytes and on nothing else.
  *
  * Refusals, each tested of the whole list before the next: RIKKOVAN_REFUSED_LENGTH where the bytes
  * are not nine each, RIKKOVAN_REFUSED_TASKS, RIKKOVAN_REFUSED_TASK, RIKKOVAN_REFUSED_ID_IN_USE.
  */
-uint64_t rikkovan_load_check(const uint8_t *tasks, size_t tasks_len);
+uint64_t rikkovan_load_check(const uint8_t *tasks, uint64_t tasks_len);
 
-/* The load, 0 where the load check is refused. */
-static inline uint64_t rikkovan_load(uint64_t answer)
+/* No tasks, in place of the two arguments. */
+#define RIKKOVAN_NO_TASKS rikkovan_no_tasks(), 0
+
+static inline const uint8_t *rikkovan_no_tasks(void)
 {
-    return RIKKOVAN_REFUSED(answer) ? 0 : answer;
+    static const uint8_t never_read = 0;
+
+    return &never_read;
+}
+
+/* The refusal in what rikkovan_load_check returns, RIKKOVAN_NOT_REFUSED for an accepted list. */
+static inline enum rikkovan_refusal rikkovan_load_refusal(uint64_t checked)
+{
+    return checked >> 63 == 0 ? RIKKOVAN_NOT_REFUSED
+                              : (enum rikkovan_refusal)(checked & 0xFFFFFFFF);
+}
+
+/* The load in what rikkovan_load_check returns, 0 where the list is refused. */
+static inline uint64_t rikkovan_load(uint64_t checked)
+{
+    return checked >> 63 == 0 ? checked : 0;
 }
 
 /*
@@ -856,7 +1149,7 @@ static inline uint64_t rikkovan_load(uint64_t answer)
  * RIKKOVAN_REFUSED_TASKS where sixteen are booked, RIKKOVAN_REFUSED_HCLK_UNREADABLE,
  * RIKKOVAN_REFUSED_LOAD where the load with the new task is above HCLK. A refusal changes nothing.
  */
-uint64_t rikkovan_book(uint8_t *head, size_t head_len, uint8_t id, uint32_t cycles,
+uint64_t rikkovan_book(uint8_t *head, uint64_t head_len, uint8_t id, uint32_t cycles,
                        uint32_t period_us);
 
 /*
@@ -872,7 +1165,7 @@ uint64_t rikkovan_book(uint8_t *head, size_t head_len, uint8_t id, uint32_t cycl
  *
  * Refusals, in this order: the head's, RIKKOVAN_REFUSED_ID_UNKNOWN. A refusal changes nothing.
  */
-uint64_t rikkovan_release(uint8_t *head, size_t head_len, uint8_t id);
+uint64_t rikkovan_release(uint8_t *head, uint64_t head_len, uint8_t id);
 
 /*
  * The guarded change
@@ -899,9 +1192,6 @@ uint64_t rikkovan_release(uint8_t *head, size_t head_len, uint8_t id);
  *
  * HCLK is what rikkovan_read_clocks gives, whatever the low-power select holds.
  */
-#define RIKKOVAN_REFUSED_UNFIT 37      /* the head is not fit */
-#define RIKKOVAN_REFUSED_OSCILLATOR 38 /* HXT48 is not ready, or HRC48 is the plan's core and not */
-
 /*
  * Changes the core clock of a fit head. Of the plan, core select, dividers and DLL1 are stored.
  *
@@ -943,55 +1233,31 @@ uint64_t rikkovan_release(uint8_t *head, size_t head_len, uint8_t id);
  * comes at step 4 and keeps what was done so far: the core is on HXT48, divided as before the call,
  * flash that was on DLL1 is on the peripheral clock, and the load may be above HCLK.
  */
-uint64_t rikkovan_change(uint8_t *head, size_t head_len, const uint8_t *plan, size_t plan_len,
-                         uint32_t *journal, size_t journal_len, const uint16_t *answers,
-                         size_t answers_len);
+uint64_t rikkovan_change(uint8_t *RIKKOVAN_RESTRICT head, uint64_t head_len, const uint8_t *plan,
+                         uint64_t plan_len, uint32_t *RIKKOVAN_RESTRICT journal,
+                         uint64_t journal_len, const uint16_t *answers, uint64_t answers_len);
 
 /*
- * A refusal number in words: one line of text in static storage, never NULL.
- *
- * Numbers 1 to 18 refuse what a call was given, and 31 to 43 the state of the head. The plan check
- * answers 1 to 14 and a reading 1 to 3; of each other call its comment names them.
- * For the word of a call on a head: rikkovan_refusal_text(rikkovan_refusal(word)).
+ * Each call on a head as a macro, which makes the word that it returns a rikkovan_answer.
  */
-static inline const char *rikkovan_refusal_text(uint64_t number)
-{
-    switch (number) {
-    case 0: return "not refused";
-    case 1: return "a record or buffer has the wrong length";
-    case 2: return "the version is unknown";
-    case 3: return "a byte holds what its field may not hold";
-    case 4: return "the core is on DLL1, and DLL1 is absent";
-    case 5: return "the core is on DBL96, which is not supported";
-    case 6: return "flash 1 is on a DLL that is absent";
-    case 7: return "flash 2 is on a DLL that is absent";
-    case 8: return "the USB source is DLL2, and DLL2 is absent";
-    case 9: return "the USB source is not a multiple of 60 MHz";
-    case 10: return "the core is on DLL1, and DLL1 is below 24 MHz";
-    case 11: return "HCLK is above 240 MHz";
-    case 12: return "PCLK1 is above 120 MHz, or above 48 MHz with HCLK at most 48 MHz";
-    case 13: return "PCLK2 is above 7.5 MHz, or above 6 MHz with HCLK at most 48 MHz";
-    case 14: return "DLL2 before halving is above 288 MHz with HCLK above 48 MHz";
-    case 15: return "the LPSYS request is 0 or above 48 MHz";
-    case 16: return "a task's id or cycles are 0, or its period is outside 1 to 10,000,000 us";
-    case 17: return "the journal is shorter than 128 words";
-    case 18: return "there are more than 4,096 answers";
-    case 31: return "HRC48 cannot be calibrated, since HXT48 is not ready";
-    case 32: return "init must calibrate HRC48, the core is on it, and HXT48 is not ready";
-    case 33: return "the calibration of HRC48 ended with a difference above 160";
-    case 34: return "HCLK cannot be read";
-    case 35: return "the present HCLK is above 240 MHz at a supply transition";
-    case 36: return "the answers ran out in a wait or a measurement";
-    case 37: return "the head is not fit for a guarded change";
-    case 38: return "HXT48 is not ready, or HRC48 is planned and not ready";
-    case 39: return "the load is above HCLK";
-    case 40: return "a task's id is in use already";
-    case 41: return "there are more than sixteen tasks";
-    case 42: return "no task has the id";
-    case 43: return "the LPSYS HCLK cannot be read";
-    default: return "unknown number";
-    }
-}
+#define rikkovan_read_clocks(...) rikkovan_answer_of(rikkovan_read_clocks(__VA_ARGS__))
+#define rikkovan_read_lpsys(...) rikkovan_answer_of(rikkovan_read_lpsys(__VA_ARGS__))
+#define rikkovan_config_lpsys_hclk_mhz(...) rikkovan_answer_of(rikkovan_config_lpsys_hclk_mhz(__VA_ARGS__))
+#define rikkovan_ensure_safe_lcpu_frequency(...) rikkovan_answer_of(rikkovan_ensure_safe_lcpu_frequency(__VA_ARGS__))
+#define rikkovan_set_lpsys_hdiv(...) rikkovan_answer_of(rikkovan_set_lpsys_hdiv(__VA_ARGS__))
+#define rikkovan_set_lpsys_div(...) rikkovan_answer_of(rikkovan_set_lpsys_div(__VA_ARGS__))
+#define rikkovan_config_lpsys_mac_clock(...) rikkovan_answer_of(rikkovan_config_lpsys_mac_clock(__VA_ARGS__))
+#define rikkovan_select_lpsys_sysclk(...) rikkovan_answer_of(rikkovan_select_lpsys_sysclk(__VA_ARGS__))
+#define rikkovan_select_lpsys_peri(...) rikkovan_answer_of(rikkovan_select_lpsys_peri(__VA_ARGS__))
+#define rikkovan_cancel_lcpu_active_request(...) rikkovan_answer_of(rikkovan_cancel_lcpu_active_request(__VA_ARGS__))
+#define rikkovan_wake_lcpu(...) rikkovan_answer_of(rikkovan_wake_lcpu(__VA_ARGS__))
+#define rikkovan_ensure_hxt48_ready(...) rikkovan_answer_of(rikkovan_ensure_hxt48_ready(__VA_ARGS__))
+#define rikkovan_calibrate_hrc48(...) rikkovan_answer_of(rikkovan_calibrate_hrc48(__VA_ARGS__))
+#define rikkovan_init(...) rikkovan_answer_of(rikkovan_init(__VA_ARGS__))
+#define rikkovan_reconfigure_sysclk(...) rikkovan_answer_of(rikkovan_reconfigure_sysclk(__VA_ARGS__))
+#define rikkovan_book(...) rikkovan_answer_of(rikkovan_book(__VA_ARGS__))
+#define rikkovan_release(...) rikkovan_answer_of(rikkovan_release(__VA_ARGS__))
+#define rikkovan_change(...) rikkovan_answer_of(rikkovan_change(__VA_ARGS__))
 
 #ifdef __cplusplus
 }

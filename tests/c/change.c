@@ -2,8 +2,7 @@
 #include "heads.h"
 
 #define MOST_ANSWERS RIKKOVAN_MOST_ANSWERS
-#define PLAN(field) RIKKOVAN_PLAN_##field
-#define TASK(k) (RIKKOVAN_HEAD_TASK(0) + (k))
+#define TASK(k) (RIKKOVAN_HEAD_AT_TASK(0) + (k))
 
 /* What is lent beside head and journal; no call may change it. */
 struct beside {
@@ -15,16 +14,17 @@ struct lengths {
     size_t head, plan, journal, answers;
 };
 
-static uint64_t make(const struct lengths *len, struct lent *lent, const struct beside *beside)
+static rikkovan_answer make(const struct lengths *len, struct lent *lent,
+                            const struct beside *beside)
 {
     static struct beside before;
-    uint64_t word;
+    rikkovan_answer answer;
 
     memcpy(&before, beside, sizeof before);
-    word = rikkovan_change(lent->head + 1, len->head, beside->plan, len->plan, lent->journal + 1,
-                           len->journal, beside->answers, len->answers);
+    answer = rikkovan_change(lent->head + 1, len->head, beside->plan, len->plan, lent->journal + 1,
+                             len->journal, beside->answers, len->answers);
     expect("change", "plan or answers changed", 0, memcmp(&before, beside, sizeof before) != 0);
-    return word;
+    return answer;
 }
 
 /* The default plan with some bytes set, and answers that are all 0. */
@@ -60,8 +60,8 @@ struct call_case {
 
 #define CORE(code) {C(SYSCLK), RIKKOVAN_CORE_##code}
 #define CORE_DLL1(stage) CORE(DLL1), {A(DLL1), 1}, {C(DLL1), stage}
-#define NO_HXT48 {RIKKOVAN_HEAD_HXT48_READY, 0}
-#define NO_HRC48 {RIKKOVAN_HEAD_HRC48_READY, 0}
+#define NO_HXT48 {AT(HXT48_READY), 0}
+#define NO_HRC48 {AT(HRC48_READY), 0}
 #define LPSYS_ON_HXT48 {C(LPSYS_SYSCLK), RIKKOVAN_LPSYS_HXT48}
 
 /* A plan from an oscillator at 48 MHz, and one from DLL1; neither has USB or DLL2. */
@@ -103,7 +103,7 @@ static const struct call_case cases[] = {
     {"all else stays",
      {ON_D(10, 8), {C(USB_SOURCE), 1}, {C(USB_DIVIDER), 4}, {C(LOW_POWER), 1}, {C(BUCK_VOUT), 3},
       {C(HRC_TRIM), 200}, {C(LPSYS_VOUT), 8}, {C(LPSYS_TIMING), 0x62}, {C(LPSYS_MAC), 9},
-      {RIKKOVAN_HEAD_BOOT_MODE, 77}},
+      {AT(BOOT_MODE), 77}},
      {PLAN_48(HXT48)}, 0, 0, 0, 0, {DIVIDERS, ENTRY(SYSCLK, 1), END_D1}},
     {"240 MHz is right already", {ON_S(15, 13), CORE_DLL1(9), HPBG_ON}, {{0, 0}}, 1, 0, 0, 1,
      {ENTRY(SYSCLK, 1), ENTRY(DLL1, 9), ENTRY(DLL1, 0x010009), DELAY(480), WAIT(DLL1, 1), DIVIDERS,
@@ -184,13 +184,13 @@ static void test_case(const struct call_case *one)
     beside.answers[one->ready] = 0x0100;
     entries = put_stores(lent.wanted + 1, one->entry);
     expect(one->name, "word", word_of(one->refusal, 0, entries, one->taken),
-           make(&len, &lent, &beside));
+           make(&len, &lent, &beside).word);
     expect_left(one->name, &lent, entries, one->entry);
 }
 
 /* Refusals before the first store, each with what the tests below it refuse. */
 struct refusal_case {
-    uint32_t refusal;
+    enum rikkovan_refusal refusal;
     struct lengths len;
     struct edit edit[EDITS], plan[EDITS];
 };
@@ -206,12 +206,12 @@ static const struct refusal_case refusals[] = {
      {{0, 0}}},
     {RIKKOVAN_REFUSED_JOURNAL, {HEAD, PLANNED, 0, 0}, {ON_D(10, 8)}, {{0, 0}}},
     {RIKKOVAN_REFUSED_ANSWERS, {HEAD - 1, PLANNED - 1, WORDS, MOST_ANSWERS + 1}, {UNFIT}, {{0, 0}}},
-    {RIKKOVAN_REFUSED_LENGTH, {HEAD - 1, PLANNED, WORDS, 0}, {{RIKKOVAN_HEAD_VERSION, 2}},
+    {RIKKOVAN_REFUSED_LENGTH, {HEAD - 1, PLANNED, WORDS, 0}, {{AT(VERSION), 2}},
      {{PLAN(VERSION), 2}}},
-    {RIKKOVAN_REFUSED_LENGTH, {HEAD + 1, PLANNED, WORDS, 0}, {{RIKKOVAN_HEAD_VERSION, 2}},
+    {RIKKOVAN_REFUSED_LENGTH, {HEAD + 1, PLANNED, WORDS, 0}, {{AT(VERSION), 2}},
      {{PLAN(VERSION), 2}}},
     {RIKKOVAN_REFUSED_VERSION, {HEAD, PLANNED - 1, WORDS, 0},
-     {{RIKKOVAN_HEAD_VERSION, 2}, {C(SYSCLK), 4}}, {{0, 0}}},
+     {{AT(VERSION), 2}, {C(SYSCLK), 4}}, {{0, 0}}},
     {RIKKOVAN_REFUSED_CODE, {HEAD, PLANNED - 1, WORDS, 0}, {{C(SYSCLK), 4}}, {{0, 0}}},
     /* the plan's */
     {RIKKOVAN_REFUSED_LENGTH, {HEAD, PLANNED - 1, WORDS, 0}, {UNFIT}, {{PLAN(VERSION), 2}}},
@@ -246,7 +246,7 @@ static void test_refusal(const struct refusal_case *one)
     lend(&lent, one->edit, EDITS, NULL, 0);
     lend_beside(&beside, one->plan, EDITS);
     expect(rikkovan_refusal_text(one->refusal), "word", word_of(one->refusal, 0, 0, 0),
-           make(&one->len, &lent, &beside));
+           make(&one->len, &lent, &beside).word);
     expect_left(rikkovan_refusal_text(one->refusal), &lent, 0, NULL);
 }
 
@@ -264,14 +264,14 @@ static void test_booking_between(void)
     beside.answers[0] = 1;
     expect("booking", "at 48 MHz", RIKKOVAN_REFUSED_LOAD,
            rikkovan_refusal(rikkovan_book(head, HEAD, 9, 120000, 1000)));
-    expect("booking", "change", word_of(0, 0, 17, 1), make(&len, &lent, &beside));
-    expect("booking", "at 240 MHz", 0, rikkovan_book(head, HEAD, 9, 120000, 1000));
+    expect("booking", "change", word_of(0, 0, 17, 1), make(&len, &lent, &beside).word);
+    expect("booking", "at 240 MHz", 0, rikkovan_book(head, HEAD, 9, 120000, 1000).word);
     put(beside.plan, hxt48, (int)(sizeof hxt48 / sizeof hxt48[0]));
     expect("booking", "change back", word_of(RIKKOVAN_REFUSED_LOAD, 0, 0, 0),
-           make(&len, &lent, &beside));
-    expect("booking", "release", 0, rikkovan_release(head, HEAD, 9));
+           make(&len, &lent, &beside).word);
+    expect("booking", "release", 0, rikkovan_release(head, HEAD, 9).word);
     expect("booking", "change back after the release", word_of(0, 0, 7, 0),
-           make(&len, &lent, &beside));
+           make(&len, &lent, &beside).word);
 }
 
 int main(void)

@@ -20,8 +20,8 @@ struct lengths {
     size_t head, plan, journal, answers;
 };
 
-static uint64_t make(enum which which, const struct lengths *len, struct lent *lent,
-                     struct beside *beside)
+static rikkovan_answer make(enum which which, const struct lengths *len, struct lent *lent,
+                            struct beside *beside)
 {
     uint8_t *head = lent->head + 1;
     uint32_t *journal = lent->journal + 1, *clocks = beside->clocks + 1;
@@ -36,7 +36,7 @@ static uint64_t make(enum which which, const struct lengths *len, struct lent *l
     case RECONFIGURE:
         return rikkovan_reconfigure_sysclk(head, len->head, beside->plan, len->plan, clocks,
                                            journal, len->journal, beside->answers, len->answers);
-    default: return 0;
+    default: return rikkovan_answer_of(0);
     }
 }
 
@@ -129,15 +129,15 @@ struct call_case {
 
 /* A plan at 48 MHz without DLLs and USB: the bytes in which it is not the default plan. */
 #define ON_HRC48 \
-    {RIKKOVAN_PLAN_CORE, RIKKOVAN_CORE_HRC48}, {RIKKOVAN_PLAN_HDIV, 0}, {RIKKOVAN_PLAN_PDIV1, 0}, \
-        {RIKKOVAN_PLAN_PDIV2, 3}, {RIKKOVAN_PLAN_DLL1_PRESENT, 0}, {RIKKOVAN_PLAN_DLL1_STAGE, 0}, \
-        {RIKKOVAN_PLAN_DLL2_PRESENT, 0}, {RIKKOVAN_PLAN_DLL2_STAGE, 0}, {RIKKOVAN_PLAN_USB, 0}, \
-        {RIKKOVAN_PLAN_WDT, 0}, {RIKKOVAN_PLAN_PERIPHERAL, 0}, {RIKKOVAN_PLAN_MPI2, 0}
+    {PLAN(CORE), RIKKOVAN_CORE_HRC48}, {PLAN(HDIV), 0}, {PLAN(PDIV1), 0}, \
+        {PLAN(PDIV2), 3}, {PLAN(DLL1_PRESENT), 0}, {PLAN(DLL1_STAGE), 0}, \
+        {PLAN(DLL2_PRESENT), 0}, {PLAN(DLL2_STAGE), 0}, {PLAN(USB), 0}, \
+        {PLAN(WDT), 0}, {PLAN(PERIPHERAL), 0}, {PLAN(MPI2), 0}
 #define TO_HRC48 ENTRY(HPSYS_CFGR, 0x000003), ENTRY(SYSCLK, RIKKOVAN_CORE_HRC48)
 #define SELECTS_HRC48 ENTRY(PERI, 0), ENTRY(LOW_POWER, 0), ENTRY(TICK, 0)
 
 /* Bytes of a head. */
-#define NO_HXT48 {RIKKOVAN_HEAD_HXT48_READY, 0}
+#define NO_HXT48 {AT(HXT48_READY), 0}
 #define CORE(code) {C(SYSCLK), RIKKOVAN_CORE_##code}
 #define CORE_DLL1(stage) CORE(DLL1), {A(DLL1), 1}, {C(DLL1), stage}
 
@@ -207,18 +207,18 @@ static const struct call_case cases[] = {
     {"init from HRC48", INIT, {CORE_DLL1(1), CORE(HRC48)}, {ON_HRC48}, 3, {COUNTS(9, 9)}, 0, 0, 3,
      {BOOT, ENTRY(SYSCLK, 1), BEGIN, TURN(512), ENTRY(HPSYS_CFGR, 3), TO_HRC48, SELECTS_HRC48}, 1,
      hrc48_clocks},
-    {"standby boot, HXT48 comes", INIT, {{RIKKOVAN_HEAD_BOOT_MODE, 3}, NO_HXT48}, {{0, 0}}, 2,
+    {"standby boot, HXT48 comes", INIT, {{AT(BOOT_MODE), 3}, NO_HXT48}, {{0, 0}}, 2,
      {0, 1}, 0, 0, 2, {ENTRY(HXT48_REQUEST, 1), WAIT(HXT48, 2), ENTRY(PERI, 1)}, 1,
      standby_clocks},
     {"init on HRC48 without HXT48", INIT, {CORE(HRC48), NO_HXT48}, {{0, 0}}, 5,
      {COUNTS(0, 0), 1, 1}, RIKKOVAN_REFUSED_ON_HRC48, 0, 0, {BOOT}, 0, NULL},
     {"init calibrates on DBL96", INIT, {CORE(DBL96)}, {{0, 0}}, 5, {COUNTS(0, 0), 1, 1},
      RIKKOVAN_REFUSED_HCLK_UNREADABLE, 0, 0, {BOOT, BEGIN, ENTRY(HRC_TRIM, 512)}, 1, NULL},
-    {"init leaves DBL96", INIT, {CORE(DBL96)}, {{RIKKOVAN_PLAN_CALIBRATE, 0}}, 2, {1, 1},
+    {"init leaves DBL96", INIT, {CORE(DBL96)}, {{PLAN(CALIBRATE), 0}}, 2, {1, 1},
      RIKKOVAN_REFUSED_HCLK_UNREADABLE, 0, 0,
      {BOOT, DIVIDERS, ENTRY(BUCK_VOUT, 15), ENTRY(HPSYS_VOUT, 13), ENTRY(HPSYS_SUPPLY, 0)}, 1,
      NULL},
-    {"init at 384 MHz", INIT, {CORE_DLL1(15)}, {{RIKKOVAN_PLAN_CALIBRATE, 0}}, 2, {1, 1},
+    {"init at 384 MHz", INIT, {CORE_DLL1(15)}, {{PLAN(CALIBRATE), 0}}, 2, {1, 1},
      RIKKOVAN_REFUSED_PRESENT_HCLK, 0, 0, {BOOT, DIVIDERS}, 1, NULL},
     {"HXT48 never comes", INIT, {NO_HXT48}, {{0, 0}}, MOST_ANSWERS, {0},
      RIKKOVAN_REFUSED_ANSWERS_RAN_OUT, 0, MOST_ANSWERS, {ENTRY(HXT48_REQUEST, 1)}, 0, NULL},
@@ -261,7 +261,8 @@ static void test_case(const struct call_case *one)
 {
     static struct beside beside;
     const struct lengths len = {RIKKOVAN_HEAD_BYTES, RIKKOVAN_PLAN_BYTES, WORDS, one->answers_len};
-    const struct edit after = {RIKKOVAN_HEAD_HXT48_READY, one->ready};
+    const struct edit after = {AT(HXT48_READY), one->ready};
+    rikkovan_answer answer;
     struct lent lent;
     int entries;
 
@@ -269,8 +270,9 @@ static void test_case(const struct call_case *one)
     lend_beside(&beside, one->plan, 13);
     memcpy(beside.answers, one->answer, sizeof one->answer);
     entries = put_stores(lent.wanted + 1, one->entry);
-    expect(one->name, "word", word_of(one->refusal, one->value, entries, one->taken),
-           make(one->which, &len, &lent, &beside));
+    answer = make(one->which, &len, &lent, &beside);
+    expect(one->name, "word", word_of(one->refusal, one->value, entries, one->taken), answer.word);
+    expect(one->name, "uncalibrated", one->value, rikkovan_uncalibrated(answer));
     expect_left(one->name, &lent, entries, one->entry);
     expect_clocks(one->name, one->which, &beside, one->clocks);
 }
@@ -283,26 +285,26 @@ struct refusal_case {
 };
 
 #define SHORT_PLAN (RIKKOVAN_PLAN_BYTES - 1)
-#define NO_DLL1 {RIKKOVAN_PLAN_DLL1_PRESENT, 0}, {RIKKOVAN_PLAN_DLL1_STAGE, 0}
+#define NO_DLL1 {PLAN(DLL1_PRESENT), 0}, {PLAN(DLL1_STAGE), 0}
 
 static const struct refusal_case refusals[] = {
     {RIKKOVAN_REFUSED_JOURNAL, {254, SHORT_PLAN, WORDS - 1, MOST_ANSWERS + 1},
-     {{RIKKOVAN_HEAD_VERSION, 2}}, {{0, 0}}},
+     {{AT(VERSION), 2}}, {{0, 0}}},
     {RIKKOVAN_REFUSED_ANSWERS, {254, SHORT_PLAN, WORDS, MOST_ANSWERS + 1},
-     {{RIKKOVAN_HEAD_VERSION, 2}}, {{0, 0}}},
-    {RIKKOVAN_REFUSED_LENGTH, {254, RIKKOVAN_PLAN_BYTES, WORDS, 0}, {{RIKKOVAN_HEAD_VERSION, 2}},
-     {{RIKKOVAN_PLAN_VERSION, 2}}},
+     {{AT(VERSION), 2}}, {{0, 0}}},
+    {RIKKOVAN_REFUSED_LENGTH, {254, RIKKOVAN_PLAN_BYTES, WORDS, 0}, {{AT(VERSION), 2}},
+     {{PLAN(VERSION), 2}}},
     {RIKKOVAN_REFUSED_VERSION, {RIKKOVAN_HEAD_BYTES, SHORT_PLAN, WORDS, 0},
-     {{RIKKOVAN_HEAD_VERSION, 2}, {C(SYSCLK), 4}}, {{0, 0}}},
+     {{AT(VERSION), 2}, {C(SYSCLK), 4}}, {{0, 0}}},
     {RIKKOVAN_REFUSED_CODE, {RIKKOVAN_HEAD_BYTES, SHORT_PLAN, WORDS, 0},
      {{C(SYSCLK), 4}, NO_HXT48}, {{0, 0}}},
     /* the plan's */
     {RIKKOVAN_REFUSED_LENGTH, {RIKKOVAN_HEAD_BYTES, SHORT_PLAN, WORDS, 0}, {CORE_DLL1(15)},
-     {NO_DLL1, {RIKKOVAN_PLAN_PDIV1, 0}}},
+     {NO_DLL1, {PLAN(PDIV1), 0}}},
     {RIKKOVAN_REFUSED_CORE_DLL1, {RIKKOVAN_HEAD_BYTES, RIKKOVAN_PLAN_BYTES, WORDS, 0},
-     {CORE_DLL1(15)}, {NO_DLL1, {RIKKOVAN_PLAN_PDIV1, 0}}},
+     {CORE_DLL1(15)}, {NO_DLL1, {PLAN(PDIV1), 0}}},
     {RIKKOVAN_REFUSED_PCLK1, {RIKKOVAN_HEAD_BYTES, RIKKOVAN_PLAN_BYTES, WORDS, 0},
-     {CORE_DLL1(15)}, {{RIKKOVAN_PLAN_PDIV1, 0}}},
+     {CORE_DLL1(15)}, {{PLAN(PDIV1), 0}}},
 };
 #define REFUSALS (int)(sizeof refusals / sizeof refusals[0])
 #define REFUSALS_WITHOUT_PLAN 5
@@ -315,7 +317,7 @@ static void test_refusal(enum which which, const struct refusal_case *one)
     lend(&lent, one->edit, 3, NULL, 0);
     lend_beside(&beside, one->plan, 3);
     expect(call_name[which], "word", word_of(one->refusal, 0, 0, 0),
-           make(which, &one->len, &lent, &beside));
+           make(which, &one->len, &lent, &beside).word);
     expect_left(call_name[which], &lent, 0, NULL);
     expect_clocks(call_name[which], which, &beside, NULL);
 }

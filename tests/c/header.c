@@ -7,20 +7,20 @@ int main(void)
     const uint8_t plan[RIKKOVAN_PLAN_BYTES] = RIKKOVAN_DEFAULT_PLAN;
     const uint8_t head[RIKKOVAN_HEAD_BYTES] = RIKKOVAN_EMPTY_HEAD;
     uint32_t clocks[RIKKOVAN_CLOCKS], lpsys[RIKKOVAN_LPSYS_CLOCKS];
-    uint64_t word;
+    rikkovan_answer answer;
 
-    if (rikkovan_plan_check(plan, sizeof plan) != RIKKOVAN_ACCEPTED)
+    if (rikkovan_plan_refusal(rikkovan_plan_check(plan, sizeof plan)) != RIKKOVAN_NOT_REFUSED)
         return 1;
-    if (rikkovan_read_clocks(head, sizeof head, clocks) != 0)
+    if (!rikkovan_done(rikkovan_read_clocks(head, sizeof head, clocks)))
         return 1;
     if (clocks[RIKKOVAN_CLOCK_PERI] != RIKKOVAN_OSCILLATOR_HZ || clocks[RIKKOVAN_CLOCK_HCLK] != 0)
         return 1;
-    word = rikkovan_read_lpsys(head, 0, lpsys);
-    if (!RIKKOVAN_REFUSED(word) || rikkovan_refusal(word) != RIKKOVAN_REFUSED_LENGTH)
+    answer = rikkovan_read_lpsys(head, 0, lpsys);
+    if (rikkovan_done(answer) || rikkovan_refusal(answer) != RIKKOVAN_REFUSED_LENGTH)
         return 1;
-    if (rikkovan_value(word) != 0 || rikkovan_entries(word) != 0 || rikkovan_taken(word) != 0)
+    if (rikkovan_value(answer) != 0 || rikkovan_entries(answer) != 0 || rikkovan_taken(answer) != 0)
         return 1;
-    if (rikkovan_load(rikkovan_load_check(plan, 0)) != 0)
+    if (rikkovan_load(rikkovan_load_check(RIKKOVAN_NO_TASKS)) != 0)
         return 1;
-    return rikkovan_refusal_text(rikkovan_refusal(word)) == NULL;
+    return rikkovan_refusal_text(rikkovan_refusal(answer)) == 0;
 }

@@ -9,13 +9,15 @@
 #define BEFORE 0xA5A5A5A5u
 #define PAST 0xEE
 
-#define A(reg) RIKKOVAN_HEAD_A(RIKKOVAN_REG_##reg)
-#define B(reg) RIKKOVAN_HEAD_B(RIKKOVAN_REG_##reg)
-#define C(reg) RIKKOVAN_HEAD_C(RIKKOVAN_REG_##reg)
-#define ENTRY(reg, value) RIKKOVAN_ENTRY(RIKKOVAN_REG_##reg, value)
-#define DELAY(cycles) RIKKOVAN_ENTRY(RIKKOVAN_ENTRY_DELAY, cycles)
-#define WAIT(kind, taken) \
-    RIKKOVAN_ENTRY(RIKKOVAN_ENTRY_WAIT, RIKKOVAN_WAIT_VALUE(RIKKOVAN_WAIT_##kind, taken))
+/* Places in a head and in a plan. */
+#define AT(part) RIKKOVAN_HEAD_AT_##part
+#define PLAN(field) RIKKOVAN_PLAN_AT_##field
+#define A(reg) RIKKOVAN_HEAD_AT_A(RIKKOVAN_REG_##reg)
+#define B(reg) RIKKOVAN_HEAD_AT_B(RIKKOVAN_REG_##reg)
+#define C(reg) RIKKOVAN_HEAD_AT_C(RIKKOVAN_REG_##reg)
+#define ENTRY(reg, value) RIKKOVAN_STORE(RIKKOVAN_REG_##reg, value)
+#define DELAY(cycles) RIKKOVAN_DELAY(cycles)
+#define WAIT(kind, taken) RIKKOVAN_WAIT(RIKKOVAN_WAIT_##kind, taken)
 
 static int failures = 0;
 
@@ -43,18 +45,18 @@ struct edit {
 /* The core on HXT48, all oscillators ready, LPSYS at 48 MHz on supply S, one task, all else 0. */
 static void make_head(uint8_t *head, size_t room)
 {
-    static const uint8_t empty[RIKKOVAN_HEAD_TASK(0)] = RIKKOVAN_EMPTY_HEAD;
+    static const uint8_t empty[RIKKOVAN_HEAD_AT_TASK(0)] = RIKKOVAN_EMPTY_HEAD;
+    const struct rikkovan_task task = {1, 2, 3};
 
     memset(head, PAST, room);
     memcpy(head, empty, sizeof empty);
-    head[C(SYSCLK)] = RIKKOVAN_CORE_HXT48;
-    head[C(LPSYS_SUPPLY)] = RIKKOVAN_LPSYS_SUPPLY_S;
-    head[RIKKOVAN_HEAD_HXT48_READY] = RIKKOVAN_READY;
-    head[RIKKOVAN_HEAD_HRC48_READY] = RIKKOVAN_READY;
-    head[RIKKOVAN_HEAD_LPSYS_HXT48_READY] = RIKKOVAN_READY;
-    head[RIKKOVAN_HEAD_WAKE_COUNT] = 7;
-    rikkovan_put_task_count(head, 1);
-    rikkovan_put_task(head + RIKKOVAN_HEAD_TASK(0), 1, 2, 3);
+    rikkovan_put_register(head, RIKKOVAN_REG_SYSCLK, RIKKOVAN_CORE_HXT48);
+    rikkovan_put_register(head, RIKKOVAN_REG_LPSYS_SUPPLY, RIKKOVAN_LPSYS_SUPPLY_S);
+    rikkovan_put_flag(head, RIKKOVAN_FLAG_HXT48, RIKKOVAN_READY);
+    rikkovan_put_flag(head, RIKKOVAN_FLAG_HRC48, RIKKOVAN_READY);
+    rikkovan_put_flag(head, RIKKOVAN_FLAG_LPSYS_HXT48, RIKKOVAN_READY);
+    rikkovan_put_wake_count(head, 7);
+    rikkovan_add_head_task(head, task);
 }
 
 static void put(uint8_t *head, const struct edit *edit, int most)

@@ -22,7 +22,7 @@ struct made {
     size_t head_len, journal_len, answers_len;
 };
 
-static uint64_t make(const struct made *made, struct lent *lent, const uint16_t *answers)
+static rikkovan_answer make(const struct made *made, struct lent *lent, const uint16_t *answers)
 {
     uint8_t *head = lent->head + 1;
     uint32_t *journal = lent->journal + 1;
@@ -39,7 +39,7 @@ static uint64_t make(const struct made *made, struct lent *lent, const uint16_t 
     case MAC: return rikkovan_config_lpsys_mac_clock(head, h, byte[0], byte[1], journal, j);
     case SYSCLK: return rikkovan_select_lpsys_sysclk(head, h, byte[0], journal, j);
     case PERI: return rikkovan_select_lpsys_peri(head, h, byte[0], journal, j);
-    default: return 0;
+    default: return rikkovan_answer_of(0);
     }
 }
 
@@ -68,18 +68,18 @@ static const struct call_case cases[] = {
       {C(LPSYS_SUPPLY), 0}}},
     {"24 MHz is slow enough", SAFE, {0}, {{A(LPSYS_CFGR), 2}}, 0, {0}, 0, 24000000, 0, 0, {0},
      {{0, 0}}},
-    {"LPSYS HCLK unreadable", SAFE, {0}, {{RIKKOVAN_HEAD_HRC48_READY, 0}}, 0, {0},
+    {"LPSYS HCLK unreadable", SAFE, {0}, {{AT(HRC48_READY), 0}}, 0, {0},
      RIKKOVAN_REFUSED_LPSYS_HCLK_UNREADABLE, 0, 0, 0, {0}, {{0, 0}}},
 
     {"wake", WAKE, {0}, {{0, 0}}, 4, {0, 0, 5, 1}, 0, 0, 4, 5,
      {ENTRY(HP2LP_REQUEST, 1), DELAY(11040), WAIT(LPSYS_ACTIVE, 3), DELAY(1440),
       WAIT(LPSYS_ACTIVE, 1)},
-     {{C(HP2LP_REQUEST), 1}, {RIKKOVAN_HEAD_WAKE_COUNT, 8}}},
-    {"a wake count of 255 wraps", WAKE, {0}, {{RIKKOVAN_HEAD_WAKE_COUNT, 255}}, MOST_ANSWERS,
+     {{C(HP2LP_REQUEST), 1}, {AT(WAKE_COUNT), 8}}},
+    {"a wake count of 255 wraps", WAKE, {0}, {{AT(WAKE_COUNT), 255}}, MOST_ANSWERS,
      {1, 1}, 0, 0, 2, 5,
      {ENTRY(HP2LP_REQUEST, 1), DELAY(11040), WAIT(LPSYS_ACTIVE, 1), DELAY(1440),
       WAIT(LPSYS_ACTIVE, 1)},
-     {{C(HP2LP_REQUEST), 1}, {RIKKOVAN_HEAD_WAKE_COUNT, 0}}},
+     {{C(HP2LP_REQUEST), 1}, {AT(WAKE_COUNT), 0}}},
     {"answers run out in the second wait", WAKE, {0}, {{0, 0}}, 2, {1, 0},
      RIKKOVAN_REFUSED_ANSWERS_RAN_OUT, 0, 2, 4,
      {ENTRY(HP2LP_REQUEST, 1), DELAY(11040), WAIT(LPSYS_ACTIVE, 1), DELAY(1440)},
@@ -89,28 +89,28 @@ static const struct call_case cases[] = {
      {{C(HP2LP_REQUEST), 1}}},
 
     {"cancel at 7", CANCEL, {0}, {{C(HP2LP_REQUEST), 1}}, 0, {0}, 0, 0, 0, 0, {0},
-     {{RIKKOVAN_HEAD_WAKE_COUNT, 6}}},
-    {"cancel at 1", CANCEL, {0}, {{C(HP2LP_REQUEST), 1}, {RIKKOVAN_HEAD_WAKE_COUNT, 1}}, 0, {0}, 0,
+     {{AT(WAKE_COUNT), 6}}},
+    {"cancel at 1", CANCEL, {0}, {{C(HP2LP_REQUEST), 1}, {AT(WAKE_COUNT), 1}}, 0, {0}, 0,
      0, 0, 1, {ENTRY(HP2LP_REQUEST, 0)},
-     {{C(HP2LP_REQUEST), 0}, {RIKKOVAN_HEAD_WAKE_COUNT, 0}}},
-    {"cancel at 0", CANCEL, {0}, {{C(HP2LP_REQUEST), 1}, {RIKKOVAN_HEAD_WAKE_COUNT, 0}}, 0, {0}, 0,
-     0, 0, 0, {0}, {{RIKKOVAN_HEAD_WAKE_COUNT, 255}}},
+     {{C(HP2LP_REQUEST), 0}, {AT(WAKE_COUNT), 0}}},
+    {"cancel at 0", CANCEL, {0}, {{C(HP2LP_REQUEST), 1}, {AT(WAKE_COUNT), 0}}, 0, {0}, 0,
+     0, 0, 0, {0}, {{AT(WAKE_COUNT), 255}}},
 
     {"HXT48 is ready", HXT48, {0}, {{0, 0}}, 0, {0}, 0, 0, 0, 0, {0}, {{0, 0}}},
     {"both domains get HXT48", HXT48, {0},
-     {{RIKKOVAN_HEAD_HXT48_READY, 0}, {RIKKOVAN_HEAD_LPSYS_HXT48_READY, 0}}, 3, {1, 0, 1}, 0, 0, 3,
+     {{AT(HXT48_READY), 0}, {AT(LPSYS_HXT48_READY), 0}}, 3, {1, 0, 1}, 0, 0, 3,
      4,
      {ENTRY(HXT48_REQUEST, 1), WAIT(HXT48, 1), ENTRY(LPSYS_HXT48_REQUEST, 1), WAIT(LPSYS_HXT48, 2)},
-     {{C(HXT48_REQUEST), 1}, {C(LPSYS_HXT48_REQUEST), 1}, {RIKKOVAN_HEAD_HXT48_READY, 1},
-      {RIKKOVAN_HEAD_LPSYS_HXT48_READY, 1}}},
-    {"LPSYS alone gets HXT48", HXT48, {0}, {{RIKKOVAN_HEAD_LPSYS_HXT48_READY, 0}}, 1, {2}, 0, 0, 1,
+     {{C(HXT48_REQUEST), 1}, {C(LPSYS_HXT48_REQUEST), 1}, {AT(HXT48_READY), 1},
+      {AT(LPSYS_HXT48_READY), 1}}},
+    {"LPSYS alone gets HXT48", HXT48, {0}, {{AT(LPSYS_HXT48_READY), 0}}, 1, {2}, 0, 0, 1,
      2, {ENTRY(LPSYS_HXT48_REQUEST, 1), WAIT(LPSYS_HXT48, 1)},
-     {{C(LPSYS_HXT48_REQUEST), 1}, {RIKKOVAN_HEAD_LPSYS_HXT48_READY, 1}}},
+     {{C(LPSYS_HXT48_REQUEST), 1}, {AT(LPSYS_HXT48_READY), 1}}},
     {"answers run out for LPSYS", HXT48, {0},
-     {{RIKKOVAN_HEAD_HXT48_READY, 0}, {RIKKOVAN_HEAD_LPSYS_HXT48_READY, 0}}, 2, {0, 1},
+     {{AT(HXT48_READY), 0}, {AT(LPSYS_HXT48_READY), 0}}, 2, {0, 1},
      RIKKOVAN_REFUSED_ANSWERS_RAN_OUT, 0, 2, 3,
      {ENTRY(HXT48_REQUEST, 1), WAIT(HXT48, 2), ENTRY(LPSYS_HXT48_REQUEST, 1)},
-     {{C(HXT48_REQUEST), 1}, {C(LPSYS_HXT48_REQUEST), 1}, {RIKKOVAN_HEAD_HXT48_READY, 1}}},
+     {{C(HXT48_REQUEST), 1}, {C(LPSYS_HXT48_REQUEST), 1}, {AT(HXT48_READY), 1}}},
 
     {"hdiv 255", HDIV, {255}, {{B(LPSYS_CFGR), 3}, {C(LPSYS_CFGR), 7}}, 0, {0}, 0, 0, 0, 1,
      {ENTRY(LPSYS_CFGR, 0xFF0307)}, {{A(LPSYS_CFGR), 255}}},
@@ -138,7 +138,7 @@ static void test_case(const struct call_case *one)
     memcpy(answers, one->answer, sizeof one->answer);
     lend(&lent, one->edit, 4, one->after, 6);
     expect(one->name, "word", word_of(one->refusal, one->value, one->entries, one->taken),
-           make(&made, &lent, answers));
+           make(&made, &lent, answers).word);
     expect_left(one->name, &lent, one->entries, one->entry);
 }
 
@@ -150,11 +150,11 @@ struct refusal_case {
 };
 
 static const struct refusal_case refusals[] = {
-    {RIKKOVAN_REFUSED_JOURNAL, 254, WORDS - 1, MOST_ANSWERS + 1, {{RIKKOVAN_HEAD_VERSION, 2}}},
-    {RIKKOVAN_REFUSED_ANSWERS, 254, WORDS, MOST_ANSWERS + 1, {{RIKKOVAN_HEAD_VERSION, 2}}},
-    {RIKKOVAN_REFUSED_LENGTH, 254, WORDS, 0, {{RIKKOVAN_HEAD_VERSION, 2}}},
+    {RIKKOVAN_REFUSED_JOURNAL, 254, WORDS - 1, MOST_ANSWERS + 1, {{AT(VERSION), 2}}},
+    {RIKKOVAN_REFUSED_ANSWERS, 254, WORDS, MOST_ANSWERS + 1, {{AT(VERSION), 2}}},
+    {RIKKOVAN_REFUSED_LENGTH, 254, WORDS, 0, {{AT(VERSION), 2}}},
     {RIKKOVAN_REFUSED_VERSION, RIKKOVAN_HEAD_BYTES, WORDS, 0,
-     {{RIKKOVAN_HEAD_VERSION, 2}, {C(SYSCLK), 4}}},
+     {{AT(VERSION), 2}, {C(SYSCLK), 4}}},
     {RIKKOVAN_REFUSED_CODE, RIKKOVAN_HEAD_BYTES, WORDS, 0, {{C(SYSCLK), 4}}},
 };
 
@@ -167,7 +167,8 @@ static void test_refusal(enum which which, const struct refusal_case *one)
     if (one->refusal == RIKKOVAN_REFUSED_ANSWERS && which != WAKE && which != HXT48)
         return;
     lend(&lent, one->edit, 2, NULL, 0);
-    expect(call_name[which], "word", word_of(one->refusal, 0, 0, 0), make(&made, &lent, answers));
+    expect(call_name[which], "word", word_of(one->refusal, 0, 0, 0),
+           make(&made, &lent, answers).word);
     expect_left(call_name[which], &lent, 0, NULL);
 }
 

@@ -44,20 +44,20 @@ static const struct request_case cases[] = {
      0, {0}, {{0, 0}}},
     {"journal of 0 words", RIKKOVAN_HEAD_BYTES, 0, 20, {{0, 0}}, RIKKOVAN_REFUSED_JOURNAL, 0, {0},
      {{0, 0}}},
-    {"a journal before a length", 254, WORDS - 1, 0, {{RIKKOVAN_HEAD_VERSION, 2}},
+    {"a journal before a length", 254, WORDS - 1, 0, {{AT(VERSION), 2}},
      RIKKOVAN_REFUSED_JOURNAL, 0, {0}, {{0, 0}}},
     {"254 bytes", 254, WORDS, 20, {{0, 0}}, RIKKOVAN_REFUSED_LENGTH, 0, {0}, {{0, 0}}},
     {"256 bytes", 256, WORDS, 20, {{0, 0}}, RIKKOVAN_REFUSED_LENGTH, 0, {0}, {{0, 0}}},
     {"0 bytes", 0, WORDS, 20, {{0, 0}}, RIKKOVAN_REFUSED_LENGTH, 0, {0}, {{0, 0}}},
-    {"two tasks in the length of one", RIKKOVAN_HEAD_BYTES, WORDS, 20, {{RIKKOVAN_HEAD_TASKS, 2}},
+    {"two tasks in the length of one", RIKKOVAN_HEAD_BYTES, WORDS, 20, {{AT(TASK_COUNT), 2}},
      RIKKOVAN_REFUSED_LENGTH, 0, {0}, {{0, 0}}},
-    {"version 2", RIKKOVAN_HEAD_BYTES, WORDS, 20, {{RIKKOVAN_HEAD_VERSION, 2}},
+    {"version 2", RIKKOVAN_HEAD_BYTES, WORDS, 20, {{AT(VERSION), 2}},
      RIKKOVAN_REFUSED_VERSION, 0, {0}, {{0, 0}}},
     {"a version before a code", RIKKOVAN_HEAD_BYTES, WORDS, 0,
-     {{RIKKOVAN_HEAD_VERSION, 2}, {C(SYSCLK), 4}}, RIKKOVAN_REFUSED_VERSION, 0, {0}, {{0, 0}}},
+     {{AT(VERSION), 2}, {C(SYSCLK), 4}}, RIKKOVAN_REFUSED_VERSION, 0, {0}, {{0, 0}}},
     {"a code before a request", RIKKOVAN_HEAD_BYTES, WORDS, 0, {{C(SYSCLK), 4}},
      RIKKOVAN_REFUSED_CODE, 0, {0}, {{0, 0}}},
-    {"task id 0", RIKKOVAN_HEAD_BYTES, WORDS, 20, {{RIKKOVAN_HEAD_TASK(0), 0}},
+    {"task id 0", RIKKOVAN_HEAD_BYTES, WORDS, 20, {{RIKKOVAN_HEAD_AT_TASK(0), 0}},
      RIKKOVAN_REFUSED_CODE, 0, {0}, {{0, 0}}},
 };
 
@@ -68,7 +68,8 @@ static void test_case(const struct request_case *one)
     lend(&lent, one->edit, 6, one->after, 8);
     expect(one->name, "word", word_of(one->refusal, 0, one->entries, 0),
            rikkovan_config_lpsys_hclk_mhz(lent.head + 1, one->head_len, one->freq_mhz,
-                                          lent.journal + 1, one->journal_len));
+                                          lent.journal + 1, one->journal_len)
+               .word);
     expect_left(one->name, &lent, one->entries, one->entry);
 }
 
@@ -85,8 +86,8 @@ static void test_every_request(void)
         head[C(LPSYS_SUPPLY)] = RIKKOVAN_LPSYS_SUPPLY_D;
         sprintf(name, "request %u", (unsigned)request);
         expect(name, "word", (uint64_t)(request <= 24 ? 1 : 4) << 32,
-               rikkovan_config_lpsys_hclk_mhz(head, sizeof head, request, journal, WORDS));
-        expect(name, "reading", 0, rikkovan_read_lpsys(head, sizeof head, lpsys));
+               rikkovan_config_lpsys_hclk_mhz(head, sizeof head, request, journal, WORDS).word);
+        expect(name, "reading", 0, rikkovan_read_lpsys(head, sizeof head, lpsys).word);
         expect(name, "LPSYS HCLK", 48000000 / (48 / request), lpsys[RIKKOVAN_LPSYS_HCLK]);
         expect(name, "supply", request > 24, head[C(LPSYS_SUPPLY)]);
     }

@@ -41,9 +41,9 @@ static void read_head(const char *name, const uint8_t *head, size_t len, uint64_
     fill(lent->clocks, RIKKOVAN_CLOCKS + 2);
     fill(lent->lpsys, RIKKOVAN_LPSYS_CLOCKS + 2);
     sprintf(what, "%.60s: word of the 15", name);
-    expect(what, word, rikkovan_read_clocks(head, len, lent->clocks + 1));
+    expect(what, word, rikkovan_read_clocks(head, len, lent->clocks + 1).word);
     sprintf(what, "%.60s: word of LPSYS", name);
-    expect(what, word, rikkovan_read_lpsys(head, len, lent->lpsys + 1));
+    expect(what, word, rikkovan_read_lpsys(head, len, lent->lpsys + 1).word);
     sprintf(what, "%.60s: beside the lent arrays", name);
     expect(what, BEFORE, lent->clocks[0]);
     expect(what, BEFORE, lent->clocks[RIKKOVAN_CLOCKS + 1]);
@@ -94,12 +94,14 @@ static void make_head(uint8_t head[RIKKOVAN_HEAD_BYTES], int tasks)
 
     memcpy(head, empty, sizeof empty);
     rikkovan_put_register(head, RIKKOVAN_REG_SYSCLK, RIKKOVAN_CORE_HXT48);
-    head[RIKKOVAN_HEAD_HXT48_READY] = RIKKOVAN_READY;
-    head[RIKKOVAN_HEAD_HRC48_READY] = RIKKOVAN_READY;
-    head[RIKKOVAN_HEAD_LPSYS_HXT48_READY] = RIKKOVAN_READY;
-    rikkovan_put_task_count(head, (uint8_t)tasks);
-    for (k = 0; k < tasks; k++)
-        rikkovan_put_task(head + RIKKOVAN_HEAD_TASK(k), (uint8_t)(k + 1), 1, 1);
+    rikkovan_put_flag(head, RIKKOVAN_FLAG_HXT48, RIKKOVAN_READY);
+    rikkovan_put_flag(head, RIKKOVAN_FLAG_HRC48, RIKKOVAN_READY);
+    rikkovan_put_flag(head, RIKKOVAN_FLAG_LPSYS_HXT48, RIKKOVAN_READY);
+    for (k = 0; k < tasks; k++) {
+        const struct rikkovan_task task = {(uint8_t)(k + 1), 1, 1};
+
+        rikkovan_add_head_task(head, task);
+    }
 }
 
 /* The head that make_head makes with some bytes set: the first `edits` of the list. */
@@ -118,9 +120,9 @@ static void make_edited(uint8_t head[RIKKOVAN_HEAD_BYTES], int tasks, const stru
         head[edit[k].offset] = edit[k].value;
 }
 
-#define A(reg) RIKKOVAN_HEAD_A(RIKKOVAN_REG_##reg)
-#define B(reg) RIKKOVAN_HEAD_B(RIKKOVAN_REG_##reg)
-#define C(reg) RIKKOVAN_HEAD_C(RIKKOVAN_REG_##reg)
+#define A(reg) RIKKOVAN_HEAD_AT_A(RIKKOVAN_REG_##reg)
+#define B(reg) RIKKOVAN_HEAD_AT_B(RIKKOVAN_REG_##reg)
+#define C(reg) RIKKOVAN_HEAD_AT_C(RIKKOVAN_REG_##reg)
 
 struct read_case {
     const char *name;
@@ -153,7 +155,7 @@ static const struct read_case read_cases[] = {
       48 * MHZ, 0, 0, 0},
      {48 * MHZ, 48 * MHZ, 48 * MHZ, 48 * MHZ, 48 * MHZ, 48 * MHZ}},
     {"HXT48 not ready, DLL2 at 180 MHz for USB, LPSYS peripherals on HXT48", 7,
-     {{RIKKOVAN_HEAD_HXT48_READY, 0}, {A(DLL2), 1}, {B(DLL2), 1}, {C(DLL2), 14},
+     {{RIKKOVAN_HEAD_AT_HXT48_READY, 0}, {A(DLL2), 1}, {B(DLL2), 1}, {C(DLL2), 14},
       {C(USB_SOURCE), RIKKOVAN_USB_DLL2}, {C(USB_DIVIDER), 3}, {C(LPSYS_PERI), 1}},
      {0, 0, 0, 0, 0, 180 * MHZ, 48 * MHZ, 24 * MHZ, 60 * MHZ, 100000, 100000, 48 * MHZ, 48 * MHZ, 0,
       0},
@@ -191,22 +193,24 @@ struct refusal_case {
     struct edit edit[4];
 };
 
-#define ID(k) (RIKKOVAN_HEAD_TASK(k) + RIKKOVAN_TASK_ID)
-#define CYCLES(k) (RIKKOVAN_HEAD_TASK(k) + RIKKOVAN_TASK_CYCLES)
-#define PERIOD(k) (RIKKOVAN_HEAD_TASK(k) + RIKKOVAN_TASK_PERIOD)
+#define ID(k) (RIKKOVAN_HEAD_AT_TASK(k) + RIKKOVAN_TASK_AT_ID)
+#define CYCLES(k) (RIKKOVAN_HEAD_AT_TASK(k) + RIKKOVAN_TASK_AT_CYCLES)
+#define PERIOD(k) (RIKKOVAN_HEAD_AT_TASK(k) + RIKKOVAN_TASK_AT_PERIOD)
 
 static const struct refusal_case refusal_cases[] = {
     {"two tasks", 0, 0, {{0, 0}}},
-    {"length field 128", 1, 1, {{RIKKOVAN_HEAD_LENGTH + 1, 128}}},
-    {"length field 383", 1, 1, {{RIKKOVAN_HEAD_LENGTH, 1}}},
-    {"three tasks in the length of two", 1, 1, {{RIKKOVAN_HEAD_TASKS, 3}}},
+    {"length field 128", 1, 1, {{RIKKOVAN_HEAD_AT_LENGTH + 1, 128}}},
+    {"length field 383", 1, 1, {{RIKKOVAN_HEAD_AT_LENGTH, 1}}},
+    {"three tasks in the length of two", 1, 1, {{RIKKOVAN_HEAD_AT_TASK_COUNT, 3}}},
     {"seventeen tasks in their length", 1, 3,
-     {{RIKKOVAN_HEAD_LENGTH, 1}, {RIKKOVAN_HEAD_LENGTH + 1, 6}, {RIKKOVAN_HEAD_TASKS, 17}}},
+     {{RIKKOVAN_HEAD_AT_LENGTH, 1},
+      {RIKKOVAN_HEAD_AT_LENGTH + 1, 6},
+      {RIKKOVAN_HEAD_AT_TASK_COUNT, 17}}},
     {"a length before a version", 1, 2,
-     {{RIKKOVAN_HEAD_LENGTH + 1, 128}, {RIKKOVAN_HEAD_VERSION, 2}}},
-    {"version 0", 2, 1, {{RIKKOVAN_HEAD_VERSION, 0}}},
-    {"version 2", 2, 1, {{RIKKOVAN_HEAD_VERSION, 2}}},
-    {"a version before a code", 2, 2, {{RIKKOVAN_HEAD_VERSION, 2}, {C(SYSCLK), 4}}},
+     {{RIKKOVAN_HEAD_AT_LENGTH + 1, 128}, {RIKKOVAN_HEAD_AT_VERSION, 2}}},
+    {"version 0", 2, 1, {{RIKKOVAN_HEAD_AT_VERSION, 0}}},
+    {"version 2", 2, 1, {{RIKKOVAN_HEAD_AT_VERSION, 2}}},
+    {"a version before a code", 2, 2, {{RIKKOVAN_HEAD_AT_VERSION, 2}, {C(SYSCLK), 4}}},
     {"core select 4", 3, 1, {{C(SYSCLK), 4}}},
     {"an unused byte of 1", 3, 1, {{A(SYSCLK), 1}}},
     {"pdiv2 8", 3, 1, {{C(HPSYS_CFGR), 8}}},
@@ -215,9 +219,9 @@ static const struct refusal_case refusal_cases[] = {
     {"trim 1024", 3, 1, {{B(HRC_TRIM), 4}}},
     {"trim 1023", 0, 2, {{B(HRC_TRIM), 3}, {C(HRC_TRIM), 255}}},
     {"vref 16", 3, 1, {{C(LPSYS_LDO), 16}}},
-    {"a ready flag of 2", 3, 1, {{RIKKOVAN_HEAD_LPSYS_HXT48_READY, 2}}},
+    {"a ready flag of 2", 3, 1, {{RIKKOVAN_HEAD_AT_LPSYS_HXT48_READY, 2}}},
     {"boot mode and wake count 255", 0, 2,
-     {{RIKKOVAN_HEAD_BOOT_MODE, 255}, {RIKKOVAN_HEAD_WAKE_COUNT, 255}}},
+     {{RIKKOVAN_HEAD_AT_BOOT_MODE, 255}, {RIKKOVAN_HEAD_AT_WAKE_COUNT, 255}}},
     {"id 0", 3, 1, {{ID(1), 0}}},
     {"equal ids", 3, 1, {{ID(1), 1}}},
     {"id 255", 0, 1, {{ID(1), 255}}},
@@ -274,19 +278,20 @@ static void test_bytes(void)
 
     for (at = 0; at < RIKKOVAN_HEAD_BYTES; at++)
         for (value = 0; value < 256; value++) {
-            uint64_t word, number;
+            rikkovan_answer answer;
+            uint64_t number;
 
             make_head(head, 7);
             head[at] = (uint8_t)value;
             memcpy(before, head, sizeof head);
-            word = rikkovan_read_clocks(head, sizeof head, lent.clocks);
-            number = rikkovan_refusal(word);
+            answer = rikkovan_read_clocks(head, sizeof head, lent.clocks);
+            number = rikkovan_refusal(answer);
             sprintf(what, "byte %d is %d: refusal in range", at, value);
             expect(what, 1, number <= RIKKOVAN_REFUSED_CODE);
             sprintf(what, "byte %d is %d: word", at, value);
-            expect(what, number == 0 ? 0 : (uint64_t)1 << 63 | number, word);
+            expect(what, number == 0 ? 0 : (uint64_t)1 << 63 | number, answer.word);
             sprintf(what, "byte %d is %d: word of LPSYS", at, value);
-            expect(what, word, rikkovan_read_lpsys(head, sizeof head, lent.lpsys));
+            expect(what, answer.word, rikkovan_read_lpsys(head, sizeof head, lent.lpsys).word);
             sprintf(what, "byte %d is %d: head unchanged", at, value);
             expect(what, 0, memcmp(head, before, sizeof head) != 0);
         }
@@ -294,15 +299,17 @@ static void test_bytes(void)
 
 static void test_words(void)
 {
-    const uint64_t done = (uint64_t)0x7FFE << 48 | (uint64_t)0xFFFD << 32 | 0xFFFFFFFC;
-    const uint64_t refused = (uint64_t)1 << 63 | (uint64_t)4096 << 48 | (uint64_t)88 << 32 | 36;
+    const rikkovan_answer done =
+        rikkovan_answer_of((uint64_t)0x7FFE << 48 | (uint64_t)0xFFFD << 32 | 0xFFFFFFFC);
+    const rikkovan_answer refused =
+        rikkovan_answer_of((uint64_t)1 << 63 | (uint64_t)4096 << 48 | (uint64_t)88 << 32 | 36);
 
-    expect("done: refused", 0, RIKKOVAN_REFUSED(done));
+    expect("done: done", 1, (uint64_t)rikkovan_done(done));
     expect("done: refusal", 0, rikkovan_refusal(done));
     expect("done: value", 0xFFFFFFFC, rikkovan_value(done));
     expect("done: entries", 0xFFFD, rikkovan_entries(done));
     expect("done: taken", 0x7FFE, rikkovan_taken(done));
-    expect("refused: refused", 1, RIKKOVAN_REFUSED(refused));
+    expect("refused: done", 0, (uint64_t)rikkovan_done(refused));
     expect("refused: refusal", 36, rikkovan_refusal(refused));
     expect("refused: value", 0, rikkovan_value(refused));
     expect("refused: entries", 88, rikkovan_entries(refused));

@@ -35,6 +35,50 @@ calls() { # FILE, without .c
             "$cxx" -std=c++11 "${strict[@]}" -Iinclude -x c++ "tests/c/$1.c" -x none "$library"
 }
 
+# Of every line of misuse.c, as C and as C++: without it the file compiles, with it it does not.
+misuse_does_not_compile() {
+    local misuse most as
+    most=$(grep -c '^#.*if MISUSE == ' tests/c/misuse.c)
+    for as in "$cc -std=c99 -x c" "$cxx -std=c++11 -x c++"; do
+        # shellcheck disable=SC2086
+        $as -Iinclude -fsyntax-only -DMISUSE=0 tests/c/misuse.c || return
+        for misuse in $(seq "$most"); do
+            # shellcheck disable=SC2086
+            ! $as -Iinclude -fsyntax-only -DMISUSE="$misuse" tests/c/misuse.c || {
+                echo "misuse $misuse compiles: $as"
+                return 1
+            }
+        done
+    done
+}
+
+# Calls on a head are those that are lent one.
+every_call_on_a_head_gives_an_answer() {
+    diff <(header_calls | grep -vx -e rikkovan_plan_check -e rikkovan_load_check) \
+        <(sed -n 's/^#define \(rikkovan_[a-z0-9_]*\)(\.\.\.) rikkovan_answer_of(\1(__VA_ARGS__))$/\1/p' \
+            include/rikkovan.h | sort)
+}
+
+# On the chip a call returns its word in registers, and has lengths of 64 bits: what clang makes of
+# a call says so.
+calls_fit_the_chip() {
+    clang --target=thumbv8m.main-none-eabi -ffreestanding -std=c99 -Iinclude -O1 -S -emit-llvm \
+        -o "$work/chip.ll" tests/c/header.c &&
+        grep -E '^declare .*i64 @rikkovan_read_clocks\((i8\*|ptr)[a-z ]*, i64[a-z ]*, (i32\*|ptr)[a-z ]*\)' \
+            "$work/chip.ll"
+}
+
+versions_agree() {
+    local version major minor patch
+    version=$(sed -n 's/^VERSION = //p' Makefile)
+    IFS=. read -r major minor patch <<<"$version"
+    grep -x "#define RIKKOVAN_LIBRARY_VERSION \"$version\"" include/rikkovan.h &&
+        grep -x "#define RIKKOVAN_LIBRARY_MAJOR $major" include/rikkovan.h &&
+        grep -x "#define RIKKOVAN_LIBRARY_MINOR $minor" include/rikkovan.h &&
+        grep -x "#define RIKKOVAN_LIBRARY_PATCH $patch" include/rikkovan.h &&
+        grep -x "version = \"$version\"" bindings/rust/Cargo.toml
+}
+
 library_has_every_call() {
     diff <(header_calls) \
         <(nm -g --defined-only "$library" | sed -n 's/.* T \(rikkovan_.*\)/\1/p' | sort)
@@ -152,6 +196,10 @@ check 'header as C11' header_as_c c11
 check 'header as C++11' header_as_cxx c++11
 check 'header as C++17' header_as_cxx c++17
 check_with nm 'the library exports the calls of the header and no other' library_has_every_call
+check 'every call on a head gives an answer' every_call_on_a_head_gives_an_answer
+check 'an answer is not taken for a number, nor a number for an answer' misuse_does_not_compile
+check_with clang 'a call on the chip returns its word in registers' calls_fit_the_chip
+check 'Makefile, header and Rust crate have one version' versions_agree
 check 'names and small functions of the header' calls helpers
 check 'plan check' calls plan_check
 check 'readings' calls readings

@@ -6,25 +6,15 @@
 #define LONGEST ((uint32_t)RIKKOVAN_MOST_PERIOD_US)
 #define LARGEST 0xFFFFFFFFu
 
-struct task {
-    uint8_t id;
-    uint32_t cycles, period_us;
-};
-
-static void put_task(uint8_t *bytes, const struct task *task)
-{
-    rikkovan_put_task(bytes, task->id, task->cycles, task->period_us);
-}
-
 static void put_count(uint8_t *head, int count)
 {
     rikkovan_put_task_count(head, (uint8_t)count);
 }
 
 /* A light task, which differs from that of every other place. */
-static struct task light(int place)
+static struct rikkovan_task light(int place)
 {
-    struct task task;
+    struct rikkovan_task task;
 
     task.id = (uint8_t)(place + 1);
     task.cycles = 0x01010101u + 0x00010203u * (uint32_t)place;
@@ -39,7 +29,7 @@ static struct task light(int place)
 struct load_case {
     const char *name;
     int tasks;
-    struct task task[MOST_LISTED];
+    struct rikkovan_task task[MOST_LISTED];
     uint32_t refusal;
     uint64_t load;
 };
@@ -82,8 +72,7 @@ static void expect_load(const char *name, const uint8_t *list, size_t len, uint3
     memcpy(before, bytes, sizeof bytes);
     answer = rikkovan_load_check(bytes + 1, len);
     expect(name, "answer", answer_of(refusal, load), answer);
-    expect(name, "refused", refusal != 0, RIKKOVAN_REFUSED(answer));
-    expect(name, "refusal", refusal, rikkovan_refusal(answer));
+    expect(name, "refusal", refusal, rikkovan_load_refusal(answer));
     expect(name, "load", load, rikkovan_load(answer));
     expect(name, "a byte changed", 0, memcmp(bytes, before, sizeof bytes) != 0);
 }
@@ -96,7 +85,7 @@ static void test_loads(void)
 
     for (i = 0; i < sizeof loads / sizeof loads[0]; i++) {
         for (k = 0; k < loads[i].tasks; k++)
-            put_task(list + NINE * k, &loads[i].task[k]);
+            rikkovan_put_task(list, (uint32_t)k, loads[i].task[k]);
         expect_load(loads[i].name, list, (size_t)(NINE * loads[i].tasks), loads[i].refusal,
                     loads[i].load);
     }
@@ -110,11 +99,8 @@ static void test_list_lengths(void)
     uint64_t load = 0;
     char name[24];
 
-    for (len = 0; len + NINE <= sizeof list; len += NINE) {
-        struct task task = light((int)(len / NINE));
-
-        put_task(list + len, &task);
-    }
+    for (len = 0; len + NINE <= sizeof list; len += NINE)
+        rikkovan_put_task(list, (uint32_t)(len / NINE), light((int)(len / NINE)));
     memset(list + len, 1, sizeof list - len);
     for (len = 0; len < sizeof list; len++) {
         uint32_t refusal = len % NINE != 0 ? RIKKOVAN_REFUSED_LENGTH
@@ -123,7 +109,7 @@ static void test_list_lengths(void)
 
         tasks = len / NINE;
         if (len % NINE == 0 && tasks > 0) {
-            struct task task = light((int)tasks - 1);
+            struct rikkovan_task task = light((int)tasks - 1);
 
             load += ((uint64_t)task.cycles * 1000000 + task.period_us - 1) / task.period_us;
         }
@@ -142,9 +128,9 @@ static void test_largest_load(void)
     int k;
 
     for (k = 0; k < MOST; k++) {
-        struct task task = {(uint8_t)(k + 1), LARGEST, 1};
+        struct rikkovan_task task = {(uint8_t)(k + 1), LARGEST, 1};
 
-        put_task(list + NINE * k, &task);
+        rikkovan_put_task(list, (uint32_t)k, task);
     }
     expect_load("sixteen of the largest", list, sizeof list, 0, 68719476720000000);
     list[NINE * (MOST - 1)] = 1;
@@ -155,46 +141,43 @@ static void test_largest_load(void)
 
 /* The head of make_head with other tasks and some bytes set, as lent and as wanted. */
 static void lend_tasks(struct lent *lent, const struct edit *edit, int edits,
-                       const struct task *task, int tasks)
+                       const struct rikkovan_task *task, int tasks)
 {
     int k;
 
     lend(lent, NULL, 0, NULL, 0);
     put_count(lent->head + 1, tasks);
-    memset(lent->head + 1 + RIKKOVAN_HEAD_TASK(0), PAST, NINE);
+    memset(lent->head + 1 + RIKKOVAN_HEAD_AT_TASK(0), PAST, NINE);
     for (k = 0; k < tasks; k++)
-        put_task(lent->head + 1 + RIKKOVAN_HEAD_TASK(k), &task[k]);
+        rikkovan_put_task(lent->head + 1 + RIKKOVAN_HEAD_AT_TASK(0), (uint32_t)k, task[k]);
     put(lent->head + 1, edit, edits);
     memcpy(lent->wanted, lent->head, sizeof lent->head);
 }
 
 /* The wanted head gets a task behind its last one. */
-static void want_booked(struct lent *lent, const struct task *task)
+static void want_booked(struct lent *lent, const struct rikkovan_task *task)
 {
-    int count = lent->wanted[1 + RIKKOVAN_HEAD_TASKS];
-
-    put_task(lent->wanted + 1 + RIKKOVAN_HEAD_TASK(count), task);
-    put_count(lent->wanted + 1, count + 1);
+    rikkovan_add_head_task(lent->wanted + 1, *task);
 }
 
 /* The wanted head loses the task of a place; the last place keeps what it held. */
 static void want_released(struct lent *lent, int place)
 {
-    int k, count = lent->wanted[1 + RIKKOVAN_HEAD_TASKS];
+    int k, count = rikkovan_get_task_count(lent->wanted + 1);
 
     for (k = place; k + 1 < count; k++)
-        memcpy(lent->wanted + 1 + RIKKOVAN_HEAD_TASK(k),
-               lent->head + 1 + RIKKOVAN_HEAD_TASK(k + 1), NINE);
+        memcpy(lent->wanted + 1 + RIKKOVAN_HEAD_AT_TASK(k),
+               lent->head + 1 + RIKKOVAN_HEAD_AT_TASK(k + 1), NINE);
     put_count(lent->wanted + 1, count - 1);
 }
 
 static void expect_book(const char *name, struct lent *lent, size_t head_len,
-                        const struct task *task, uint32_t refusal)
+                        const struct rikkovan_task *task, uint32_t refusal)
 {
     if (refusal == 0)
         want_booked(lent, task);
     expect(name, "word", word_of(refusal, 0, 0, 0),
-           rikkovan_book(lent->head + 1, head_len, task->id, task->cycles, task->period_us));
+           rikkovan_book(lent->head + 1, head_len, task->id, task->cycles, task->period_us).word);
     expect_left(name, lent, 0, NULL);
 }
 
@@ -204,7 +187,7 @@ static void expect_release(const char *name, struct lent *lent, size_t head_len,
     if (refusal == 0)
         want_released(lent, place);
     expect(name, "word", word_of(refusal, 0, 0, 0),
-           rikkovan_release(lent->head + 1, head_len, id));
+           rikkovan_release(lent->head + 1, head_len, id).word);
     expect_left(name, lent, 0, NULL);
 }
 
@@ -213,7 +196,7 @@ struct book_case {
     const char *name;
     struct edit edit[4];
     int tasks;
-    struct task task[MOST_LISTED], booked;
+    struct rikkovan_task task[MOST_LISTED], booked;
     uint32_t refusal;
 };
 
@@ -258,9 +241,9 @@ static const struct book_case bookings[] = {
      RIKKOVAN_REFUSED_HCLK_UNREADABLE},
     {"core on a DLL1 that is off", {{C(SYSCLK), RIKKOVAN_CORE_DLL1}, {C(DLL1), 9}}, 0, {{0, 0, 0}},
      {1, 1, 1000}, RIKKOVAN_REFUSED_HCLK_UNREADABLE},
-    {"HXT48 not ready", {{RIKKOVAN_HEAD_HXT48_READY, 0}}, 0, {{0, 0, 0}}, {1, 1, 1000},
+    {"HXT48 not ready", {{AT(HXT48_READY), 0}}, 0, {{0, 0, 0}}, {1, 1, 1000},
      RIKKOVAN_REFUSED_HCLK_UNREADABLE},
-    {"HRC48 not ready", {{C(SYSCLK), RIKKOVAN_CORE_HRC48}, {RIKKOVAN_HEAD_HRC48_READY, 0}}, 0,
+    {"HRC48 not ready", {{C(SYSCLK), RIKKOVAN_CORE_HRC48}, {AT(HRC48_READY), 0}}, 0,
      {{0, 0, 0}}, {1, 1, 1000}, RIKKOVAN_REFUSED_HCLK_UNREADABLE},
 };
 
@@ -281,7 +264,7 @@ static void test_bookings(void)
 static void test_sixteen(void)
 {
     static const int place[MOST] = {0, 14, 6, 6, 0, 10, 1, 8, 3, 2, 5, 4, 0, 1, 1, 0};
-    struct task task, seventeenth = light(MOST), heavy = {0, LARGEST, 1};
+    struct rikkovan_task task, seventeenth = light(MOST), heavy = {0, LARGEST, 1};
     struct lent lent;
     int k;
 
@@ -301,7 +284,7 @@ static void test_sixteen(void)
                 RIKKOVAN_REFUSED_TASKS);
     for (k = 0; k < MOST; k++)
         expect_release("released in turn", &lent, RIKKOVAN_HEAD_BYTES,
-                       lent.head[1 + RIKKOVAN_HEAD_TASK(place[k])], place[k], 0);
+                       lent.head[1 + RIKKOVAN_HEAD_AT_TASK(place[k])], place[k], 0);
     for (k = 0; k < 256; k++)
         expect_release("no task", &lent, RIKKOVAN_HEAD_BYTES, (uint8_t)k, 0,
                        RIKKOVAN_REFUSED_ID_UNKNOWN);
@@ -310,7 +293,7 @@ static void test_sixteen(void)
 /* Every place of every count, and ids that no task has; one of them stands just past the record. */
 static void test_releases(void)
 {
-    struct task task[MOST];
+    struct rikkovan_task task[MOST];
     struct lent lent;
     int count, id;
 
@@ -336,25 +319,26 @@ struct refusal_case {
 };
 
 static const struct refusal_case refusals[] = {
-    {RIKKOVAN_REFUSED_LENGTH, 0, {{RIKKOVAN_HEAD_VERSION, 2}}},
-    {RIKKOVAN_REFUSED_LENGTH, 254, {{RIKKOVAN_HEAD_VERSION, 2}}},
-    {RIKKOVAN_REFUSED_LENGTH, 256, {{RIKKOVAN_HEAD_VERSION, 2}}},
+    {RIKKOVAN_REFUSED_LENGTH, 0, {{AT(VERSION), 2}}},
+    {RIKKOVAN_REFUSED_LENGTH, 254, {{AT(VERSION), 2}}},
+    {RIKKOVAN_REFUSED_LENGTH, 256, {{AT(VERSION), 2}}},
     {RIKKOVAN_REFUSED_LENGTH, RIKKOVAN_HEAD_BYTES,
-     {{RIKKOVAN_HEAD_TASKS, 3}, {RIKKOVAN_HEAD_VERSION, 2}}},
+     {{AT(TASK_COUNT), 3}, {AT(VERSION), 2}}},
     {RIKKOVAN_REFUSED_LENGTH, RIKKOVAN_HEAD_BYTES,
-     {{RIKKOVAN_HEAD_LENGTH + 1, 109}, {RIKKOVAN_HEAD_VERSION, 2}}},
+     {{AT(LENGTH) + 1, 109}, {AT(VERSION), 2}}},
     {RIKKOVAN_REFUSED_VERSION, RIKKOVAN_HEAD_BYTES,
-     {{RIKKOVAN_HEAD_VERSION, 2}, {C(SYSCLK), 4}}},
+     {{AT(VERSION), 2}, {C(SYSCLK), 4}}},
     {RIKKOVAN_REFUSED_CODE, RIKKOVAN_HEAD_BYTES, {{C(SYSCLK), 4}}},
-    {RIKKOVAN_REFUSED_CODE, RIKKOVAN_HEAD_BYTES, {{RIKKOVAN_HEAD_TASK(1), 1}}},
-    {RIKKOVAN_REFUSED_CODE, RIKKOVAN_HEAD_BYTES, {{RIKKOVAN_HEAD_TASK(0), 0}}},
-    {RIKKOVAN_REFUSED_CODE, RIKKOVAN_HEAD_BYTES, {{RIKKOVAN_HEAD_TASK(1) + 5, 1}}},
+    {RIKKOVAN_REFUSED_CODE, RIKKOVAN_HEAD_BYTES, {{RIKKOVAN_HEAD_AT_TASK(1), 1}}},
+    {RIKKOVAN_REFUSED_CODE, RIKKOVAN_HEAD_BYTES, {{RIKKOVAN_HEAD_AT_TASK(0), 0}}},
+    {RIKKOVAN_REFUSED_CODE, RIKKOVAN_HEAD_BYTES, {{RIKKOVAN_HEAD_AT_TASK(1) + 5, 1}}},
 };
 
 static void test_refusals(void)
 {
-    static const struct task two[] = {{1, 1, 1000}, {2, 1, 1000}};
-    static const struct task booked[] = {{3, 1, 1000}, {0, 1, 1000}, {1, 1, 1000}, {3, LARGEST, 1}};
+    static const struct rikkovan_task two[] = {{1, 1, 1000}, {2, 1, 1000}};
+    static const struct rikkovan_task booked[] = {
+        {3, 1, 1000}, {0, 1, 1000}, {1, 1, 1000}, {3, LARGEST, 1}};
     struct lent lent;
     size_t i, k;
 
@@ -371,27 +355,28 @@ static void test_refusals(void)
 }
 
 /* What refuses a booking of id 3 with a share of 3,000 on a head with two tasks. */
-static uint32_t refusal_of(const uint8_t *head)
+static enum rikkovan_refusal refusal_of(const uint8_t *head)
 {
-    const uint8_t *tasks = head + RIKKOVAN_HEAD_TASK(0);
+    const uint8_t *tasks = head + RIKKOVAN_HEAD_AT_TASK(0);
     uint32_t clocks[RIKKOVAN_CLOCKS], hclk;
-    uint64_t load, word = rikkovan_read_clocks(head, RIKKOVAN_HEAD_BYTES, clocks);
+    rikkovan_answer answer = rikkovan_read_clocks(head, RIKKOVAN_HEAD_BYTES, clocks);
+    uint64_t load;
 
-    if (RIKKOVAN_REFUSED(word))
-        return rikkovan_refusal(word);
+    if (!rikkovan_done(answer))
+        return rikkovan_refusal(answer);
     if (tasks[0] == 3 || tasks[NINE] == 3)
         return RIKKOVAN_REFUSED_ID_IN_USE;
     hclk = clocks[RIKKOVAN_CLOCK_HCLK];
     if (hclk == 0)
         return RIKKOVAN_REFUSED_HCLK_UNREADABLE;
     load = rikkovan_load(rikkovan_load_check(tasks, 2 * NINE)) + 3000;
-    return load > hclk ? RIKKOVAN_REFUSED_LOAD : 0;
+    return load > hclk ? RIKKOVAN_REFUSED_LOAD : RIKKOVAN_NOT_REFUSED;
 }
 
 /* Every byte of a head at every value, held to a reading and to the load check. */
 static void test_bytes(void)
 {
-    static const struct task two[] = {{1, 1, 1000}, {2, 2, 1000}}, three = {3, 3, 1000};
+    static const struct rikkovan_task two[] = {{1, 1, 1000}, {2, 2, 1000}}, three = {3, 3, 1000};
     struct lent lent;
     int at, value;
 

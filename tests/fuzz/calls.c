@@ -14,79 +14,83 @@ static uint64_t plan_check(const struct lent *lent)
 
 static uint64_t read_clocks(const struct lent *lent)
 {
-    return rikkovan_read_clocks(LENT(HEAD), lent->at[CLOCKS]);
+    return rikkovan_read_clocks(LENT(HEAD), lent->at[CLOCKS]).word;
 }
 
 static uint64_t read_lpsys(const struct lent *lent)
 {
-    return rikkovan_read_lpsys(LENT(HEAD), lent->at[CLOCKS]);
+    return rikkovan_read_lpsys(LENT(HEAD), lent->at[CLOCKS]).word;
 }
 
 static uint64_t config_lpsys(const struct lent *lent)
 {
-    return rikkovan_config_lpsys_hclk_mhz(LENT(HEAD), lent->number[0], LENT(JOURNAL));
+    return rikkovan_config_lpsys_hclk_mhz(LENT(HEAD), lent->number[0], LENT(JOURNAL)).word;
 }
 
 static uint64_t ensure_safe(const struct lent *lent)
 {
-    return rikkovan_ensure_safe_lcpu_frequency(LENT(HEAD), LENT(JOURNAL));
+    return rikkovan_ensure_safe_lcpu_frequency(LENT(HEAD), LENT(JOURNAL)).word;
 }
 
 static uint64_t set_hdiv(const struct lent *lent)
 {
-    return rikkovan_set_lpsys_hdiv(LENT(HEAD), lent->byte[0], LENT(JOURNAL));
+    return rikkovan_set_lpsys_hdiv(LENT(HEAD), lent->byte[0], LENT(JOURNAL)).word;
 }
 
 static uint64_t set_div(const struct lent *lent)
 {
     return rikkovan_set_lpsys_div(LENT(HEAD), lent->byte[0], lent->byte[1], lent->byte[2],
-                                  LENT(JOURNAL));
+                                  LENT(JOURNAL))
+        .word;
 }
 
 static uint64_t config_mac(const struct lent *lent)
 {
-    return rikkovan_config_lpsys_mac_clock(LENT(HEAD), lent->byte[0], lent->byte[1], LENT(JOURNAL));
+    return rikkovan_config_lpsys_mac_clock(LENT(HEAD), lent->byte[0], lent->byte[1], LENT(JOURNAL))
+        .word;
 }
 
 static uint64_t select_sysclk(const struct lent *lent)
 {
-    return rikkovan_select_lpsys_sysclk(LENT(HEAD), lent->byte[1], LENT(JOURNAL));
+    return rikkovan_select_lpsys_sysclk(LENT(HEAD), lent->byte[1], LENT(JOURNAL)).word;
 }
 
 static uint64_t select_peri(const struct lent *lent)
 {
-    return rikkovan_select_lpsys_peri(LENT(HEAD), lent->byte[1], LENT(JOURNAL));
+    return rikkovan_select_lpsys_peri(LENT(HEAD), lent->byte[1], LENT(JOURNAL)).word;
 }
 
 static uint64_t cancel(const struct lent *lent)
 {
-    return rikkovan_cancel_lcpu_active_request(LENT(HEAD), LENT(JOURNAL));
+    return rikkovan_cancel_lcpu_active_request(LENT(HEAD), LENT(JOURNAL)).word;
 }
 
 static uint64_t wake(const struct lent *lent)
 {
-    return rikkovan_wake_lcpu(LENT(HEAD), LENT(JOURNAL), LENT(ANSWERS));
+    return rikkovan_wake_lcpu(LENT(HEAD), LENT(JOURNAL), LENT(ANSWERS)).word;
 }
 
 static uint64_t ensure_hxt48(const struct lent *lent)
 {
-    return rikkovan_ensure_hxt48_ready(LENT(HEAD), LENT(JOURNAL), LENT(ANSWERS));
+    return rikkovan_ensure_hxt48_ready(LENT(HEAD), LENT(JOURNAL), LENT(ANSWERS)).word;
 }
 
 static uint64_t calibrate(const struct lent *lent)
 {
-    return rikkovan_calibrate_hrc48(LENT(HEAD), LENT(JOURNAL), LENT(ANSWERS));
+    return rikkovan_calibrate_hrc48(LENT(HEAD), LENT(JOURNAL), LENT(ANSWERS)).word;
 }
 
 static uint64_t init(const struct lent *lent)
 {
-    return rikkovan_init(LENT(HEAD), LENT(PLAN), lent->at[CLOCKS], LENT(JOURNAL), LENT(ANSWERS));
+    return rikkovan_init(LENT(HEAD), LENT(PLAN), lent->at[CLOCKS], LENT(JOURNAL), LENT(ANSWERS))
+        .word;
 }
 
 static uint64_t reconfigure(const struct lent *lent)
 {
     return rikkovan_reconfigure_sysclk(LENT(HEAD), LENT(PLAN), lent->at[CLOCKS], LENT(JOURNAL),
-                                       LENT(ANSWERS));
+                                       LENT(ANSWERS))
+        .word;
 }
 
 static uint64_t load_check(const struct lent *lent)
@@ -96,17 +100,17 @@ static uint64_t load_check(const struct lent *lent)
 
 static uint64_t book(const struct lent *lent)
 {
-    return rikkovan_book(LENT(HEAD), lent->byte[0], lent->number[0], lent->number[1]);
+    return rikkovan_book(LENT(HEAD), lent->byte[0], lent->number[0], lent->number[1]).word;
 }
 
 static uint64_t release(const struct lent *lent)
 {
-    return rikkovan_release(LENT(HEAD), lent->byte[0]);
+    return rikkovan_release(LENT(HEAD), lent->byte[0]).word;
 }
 
 static uint64_t change(const struct lent *lent)
 {
-    return rikkovan_change(LENT(HEAD), LENT(PLAN), LENT(JOURNAL), LENT(ANSWERS));
+    return rikkovan_change(LENT(HEAD), LENT(PLAN), LENT(JOURNAL), LENT(ANSWERS)).word;
 }
 
 #define H LENDS(HEAD)
@@ -150,5 +154,9 @@ const struct call calls[CALLS] = {
 
 uint32_t refusal_of(enum which which, uint64_t answer)
 {
-    return which == PLAN_CHECK ? (uint32_t)answer : rikkovan_refusal(answer);
+    switch (which) {
+    case PLAN_CHECK: return rikkovan_plan_refusal(answer);
+    case LOAD_CHECK: return rikkovan_load_refusal(answer);
+    default: return rikkovan_refusal(rikkovan_answer_of(answer));
+    }
 }

@@ -52,7 +52,7 @@ static void check_refusal(const struct made *made)
 
 static void check_value(const struct made *made)
 {
-    uint32_t value = rikkovan_value(made->answer);
+    uint32_t value = rikkovan_value(rikkovan_answer_of(made->answer));
 
     if (made->refusal != 0)
         return;
@@ -79,44 +79,43 @@ static void check_journal(const struct made *made)
            "entries of a refusal that keeps nothing");
     expect(made, is_same_from(made, JOURNAL, made->entries), "a word past the last entry");
     for (k = 0; k < made->entries; k++) {
-        uint32_t number = rikkovan_entry_number(journal[k]);
-
-        if (number == RIKKOVAN_ENTRY_WAIT) {
+        if (rikkovan_is_wait(journal[k])) {
             uint32_t kind = rikkovan_wait_kind(journal[k]);
 
             expect(made, kind >= RIKKOVAN_WAIT_HXT48 && kind <= RIKKOVAN_WAIT_LPSYS_ACTIVE,
                    "a wait of no kind");
             taken += rikkovan_wait_taken(journal[k]);
         } else
-            expect(made, number == RIKKOVAN_ENTRY_DELAY || rikkovan_is_store(journal[k]),
+            expect(made, rikkovan_is_delay(journal[k]) || rikkovan_is_store(journal[k]),
                    "an entry of no number");
     }
     if (made->refusal == RIKKOVAN_REFUSED_ANSWERS_RAN_OUT) {
         expect(made, taken <= made->given->len[ANSWERS], "waits took more than is lent");
         taken = (uint32_t)made->given->len[ANSWERS];
     }
-    expect(made, rikkovan_taken(made->answer) == taken, "not the answers that the waits took");
+    expect(made, rikkovan_taken(rikkovan_answer_of(made->answer)) == taken,
+           "not the answers that the waits took");
 }
 
 /* What an entry does to a head: a store to its register, a wait for HXT48 to its ready flag. */
 static void put_entry(uint8_t *head, uint32_t entry)
 {
     rikkovan_put_entry(head, entry);
-    if (rikkovan_entry_number(entry) != RIKKOVAN_ENTRY_WAIT)
+    if (!rikkovan_is_wait(entry))
         return;
     if (rikkovan_wait_kind(entry) == RIKKOVAN_WAIT_HXT48)
-        head[RIKKOVAN_HEAD_HXT48_READY] = RIKKOVAN_READY;
+        rikkovan_put_flag(head, RIKKOVAN_FLAG_HXT48, RIKKOVAN_READY);
     if (rikkovan_wait_kind(entry) == RIKKOVAN_WAIT_LPSYS_HXT48)
-        head[RIKKOVAN_HEAD_LPSYS_HXT48_READY] = RIKKOVAN_READY;
+        rikkovan_put_flag(head, RIKKOVAN_FLAG_LPSYS_HXT48, RIKKOVAN_READY);
 }
 
 static void put_released(uint8_t *head, uint8_t id)
 {
-    uint8_t count = head[RIKKOVAN_HEAD_TASKS], place = 0;
+    uint8_t count = rikkovan_get_task_count(head), place = 0;
 
-    while (head[RIKKOVAN_HEAD_TASK(place)] != id)
+    while (rikkovan_get_head_task(head, place).id != id)
         place++;
-    memmove(head + RIKKOVAN_HEAD_TASK(place), head + RIKKOVAN_HEAD_TASK(place + 1),
+    memmove(head + RIKKOVAN_HEAD_AT_TASK(place), head + RIKKOVAN_HEAD_AT_TASK(place + 1),
             (size_t)RIKKOVAN_TASK_BYTES * (size_t)(count - place - 1));
     rikkovan_put_task_count(head, (uint8_t)(count - 1));
 }
@@ -125,16 +124,13 @@ static void put_released(uint8_t *head, uint8_t id)
 static void put_done(const struct made *made, uint8_t *head)
 {
     const struct lent *given = made->given;
-    uint8_t count = head[RIKKOVAN_HEAD_TASKS];
+    struct rikkovan_task task = {given->byte[0], given->number[0], given->number[1]};
+    uint8_t wakes = rikkovan_get_wake_count(head);
 
     switch (made->which) {
-    case WAKE: head[RIKKOVAN_HEAD_WAKE_COUNT]++; break;
-    case CANCEL: head[RIKKOVAN_HEAD_WAKE_COUNT]--; break;
-    case BOOK:
-        rikkovan_put_task(head + RIKKOVAN_HEAD_TASK(count), given->byte[0], given->number[0],
-                          given->number[1]);
-        rikkovan_put_task_count(head, (uint8_t)(count + 1));
-        break;
+    case WAKE: rikkovan_put_wake_count(head, (uint8_t)(wakes + 1)); break;
+    case CANCEL: rikkovan_put_wake_count(head, (uint8_t)(wakes - 1)); break;
+    case BOOK: rikkovan_add_head_task(head, task); break;
     case RELEASE: put_released(head, given->byte[0]); break;
     default: break;
     }
@@ -158,7 +154,8 @@ static void check_head(const struct made *made)
         put_done(made, head);
     expect(made, memcmp(head, made->left->at[HEAD], sizeof head) == 0,
            "not the head that the entries give");
-    expect(made, rikkovan_read_clocks(head, sizeof head, clocks) == 0, "the head is refused now");
+    expect(made, rikkovan_done(rikkovan_read_clocks(head, sizeof head, clocks)),
+           "the head is refused now");
 }
 
 static void check_clocks(const struct made *made)
@@ -216,7 +213,7 @@ static void check_change(const struct made *made)
     if (model_refusal(CHANGE, made->given) != 0)
         return;
     expect(made, (made->refusal == 0) ==
-                     (plan[RIKKOVAN_PLAN_DLL1_PRESENT] == 0 || is_any_ready(made->given)),
+                     (rikkovan_get_plan(plan).dll1.present == 0 || is_any_ready(made->given)),
            "done or not, against its answers");
     if (made->refusal == 0)
         expect(made, model_hclk(head) == model_plan_hclk(plan), "HCLK is not the plan's");
@@ -237,7 +234,7 @@ static void check_guarded(const struct made *made)
         expect(made, model_booked_load(left) <= model_hclk(left), "the load is above HCLK");
 }
 
-/* The plan check answers the refusal as it is, the load check with bit 63, or the load. */
+/* The plan check returns the refusal as it is, the load check with bit 63, or the load. */
 static void check_number(const struct made *made)
 {
     uint64_t wanted = made->refusal;
@@ -262,7 +259,7 @@ void check_call(enum which which, const struct lent *given, uint64_t answer,
         check_number(&made);
         return;
     }
-    made.entries = rikkovan_entries(answer);
+    made.entries = rikkovan_entries(rikkovan_answer_of(answer));
     check_value(&made);
     check_journal(&made);
     check_head(&made);

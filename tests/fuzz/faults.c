@@ -11,10 +11,10 @@
 struct changed {
     uint8_t *head, *plan;
     uint32_t *journal;
-    size_t journal_len;
+    uint64_t journal_len;
     const uint16_t *answers;
-    size_t answers_len;
-    uint64_t word;
+    uint64_t answers_len;
+    rikkovan_answer answer;
 };
 
 static volatile unsigned seen;
@@ -31,7 +31,7 @@ static void reads_behind_the_answers(struct changed *changed)
 
 static void writes_the_plan(struct changed *changed)
 {
-    changed->plan[RIKKOVAN_PLAN_VERSION] = 1;
+    changed->plan[RIKKOVAN_PLAN_AT_VERSION] = 1;
 }
 
 static void writes_behind_the_journal(struct changed *changed)
@@ -41,32 +41,32 @@ static void writes_behind_the_journal(struct changed *changed)
 
 static void writes_past_the_entries(struct changed *changed)
 {
-    if (rikkovan_entries(changed->word) != 0)
-        changed->journal[rikkovan_entries(changed->word)] = 0;
+    if (rikkovan_entries(changed->answer) != 0)
+        changed->journal[rikkovan_entries(changed->answer)] = 0;
 }
 
 static void writes_past_the_record(struct changed *changed)
 {
-    if (!RIKKOVAN_REFUSED(changed->word))
+    if (rikkovan_done(changed->answer))
         changed->head[RIKKOVAN_HEAD_BYTES - 1] ^= 1;
 }
 
 static void counts_an_entry_less(struct changed *changed)
 {
-    if (rikkovan_entries(changed->word) != 0)
-        changed->word -= UINT64_C(1) << 32;
+    if (rikkovan_entries(changed->answer) != 0)
+        changed->answer.word -= UINT64_C(1) << 32;
 }
 
 static void takes_another_refusal(struct changed *changed)
 {
-    if (rikkovan_refusal(changed->word) == RIKKOVAN_REFUSED_LOAD)
-        changed->word--;
+    if (rikkovan_refusal(changed->answer) == RIKKOVAN_REFUSED_LOAD)
+        changed->answer.word--;
 }
 
 static void remembers_the_last_call(struct changed *changed)
 {
-    if (!RIKKOVAN_REFUSED(changed->word))
-        changed->word += seen++ % 2;
+    if (rikkovan_done(changed->answer))
+        changed->answer.word += seen++ % 2;
 }
 
 /* The core's clock is stored first: the head after the call is right, and the way there is not. */
@@ -74,7 +74,7 @@ static void jumps_to_the_clock(struct changed *changed)
 {
     uint32_t k = 0, entry;
 
-    if (RIKKOVAN_REFUSED(changed->word))
+    if (!rikkovan_done(changed->answer))
         return;
     while (rikkovan_entry_number(changed->journal[k]) != RIKKOVAN_REG_SYSCLK)
         k++;
@@ -100,25 +100,26 @@ static const struct {
     FAULT(jumps_to_the_clock),
 };
 
-uint64_t __real_rikkovan_change(uint8_t *head, size_t head_len, const uint8_t *plan,
-                                size_t plan_len, uint32_t *journal, size_t journal_len,
-                                const uint16_t *answers, size_t answers_len);
-uint64_t __wrap_rikkovan_change(uint8_t *head, size_t head_len, const uint8_t *plan,
-                                size_t plan_len, uint32_t *journal, size_t journal_len,
-                                const uint16_t *answers, size_t answers_len);
+uint64_t __real_rikkovan_change(uint8_t *head, uint64_t head_len, const uint8_t *plan,
+                                uint64_t plan_len, uint32_t *journal, uint64_t journal_len,
+                                const uint16_t *answers, uint64_t answers_len);
+uint64_t __wrap_rikkovan_change(uint8_t *head, uint64_t head_len, const uint8_t *plan,
+                                uint64_t plan_len, uint32_t *journal, uint64_t journal_len,
+                                const uint16_t *answers, uint64_t answers_len);
 
-uint64_t __wrap_rikkovan_change(uint8_t *head, size_t head_len, const uint8_t *plan,
-                                size_t plan_len, uint32_t *journal, size_t journal_len,
-                                const uint16_t *answers, size_t answers_len)
+uint64_t __wrap_rikkovan_change(uint8_t *head, uint64_t head_len, const uint8_t *plan,
+                                uint64_t plan_len, uint32_t *journal, uint64_t journal_len,
+                                const uint16_t *answers, uint64_t answers_len)
 {
     const char *fault = getenv("FAULT");
-    struct changed changed = {head, (uint8_t *)plan, journal, journal_len, answers, answers_len, 0};
+    struct changed changed = {head,    (uint8_t *)plan, journal, journal_len,
+                              answers, answers_len,     {0}};
     size_t k;
 
-    changed.word = __real_rikkovan_change(head, head_len, plan, plan_len, journal, journal_len,
-                                          answers, answers_len);
+    changed.answer = rikkovan_answer_of(__real_rikkovan_change(
+        head, head_len, plan, plan_len, journal, journal_len, answers, answers_len));
     for (k = 0; fault != NULL && k < sizeof faults / sizeof faults[0]; k++)
         if (strcmp(fault, faults[k].name) == 0)
             faults[k].spoil(&changed);
-    return changed.word;
+    return changed.answer.word;
 }

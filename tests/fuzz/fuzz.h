@@ -18,7 +18,9 @@
 
 #include "rikkovan.h"
 
-/* Takes an input's bytes as calls, makes and checks them. Answers 0; a failed check aborts. */
+#include <stddef.h>
+
+/* Takes an input's bytes as calls, makes and checks them. Returns 0; a failed check aborts. */
 int fuzz_one(const uint8_t *data, size_t size);
 
 /* input.c: bytes past the end of an input are 0, which is always the plainest choice. */
@@ -79,7 +81,7 @@ enum which {
 
 struct call {
     const char *name;
-    uint64_t (*make)(const struct lent *lent);
+    uint64_t (*make)(const struct lent *lent); /* gives the number or word that it returns */
     unsigned lends, reads; /* LENDS of what it is lent, and of that which it must not write */
     uint32_t most_entries;
     uint64_t refusals; /* bit n: it may be refused n */
@@ -90,7 +92,7 @@ extern const struct call calls[CALLS];
 /* How often a call was made, by its refusal, 0 for done. */
 extern uint64_t answered[CALLS][MOST_REFUSAL + 1];
 
-/* The refusal in an answer, 0 for none; the plan check has no bit for it. */
+/* The refusal in what a call returned, 0 for none. */
 uint32_t refusal_of(enum which which, uint64_t answer);
 
 /* pages.c */

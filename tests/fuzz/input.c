@@ -63,11 +63,12 @@ void draw_tasks(struct input *input, uint8_t *tasks, unsigned count)
     unsigned k;
 
     for (k = 0; k < count; k++) {
-        uint8_t id = (uint8_t)(draw_one_in(input, 64) ? 1 : k + 1);
-        uint32_t cycles = draw_number(input, draw_one_in(input, 16) ? 4 : 3);
-        uint32_t period = draw_number(input, 3) % RIKKOVAN_MOST_PERIOD_US;
+        struct rikkovan_task task;
 
-        rikkovan_put_task(tasks + RIKKOVAN_TASK_BYTES * k, id, cycles | 1, period + 1);
+        task.id = (uint8_t)(draw_one_in(input, 64) ? 1 : k + 1);
+        task.cycles = draw_number(input, draw_one_in(input, 16) ? 4 : 3) | 1;
+        task.period_us = draw_number(input, 3) % RIKKOVAN_MOST_PERIOD_US + 1;
+        rikkovan_put_task(tasks, k, task);
     }
     damage(input, tasks, RIKKOVAN_TASK_BYTES * count);
 }
@@ -106,23 +107,24 @@ static void draw_register(struct input *input, uint8_t *head, unsigned reg)
     unsigned byte;
 
     for (byte = 0; byte < 3; byte++)
-        head[RIKKOVAN_HEAD_A(reg) + byte] = draw_below(input, largest_in_register(reg, byte) + 1u);
+        head[RIKKOVAN_HEAD_AT_A(reg) + byte] =
+            draw_below(input, largest_in_register(reg, byte) + 1u);
 }
 
 static void draw_flags(struct input *input, uint8_t *head)
 {
     unsigned flag;
 
-    for (flag = RIKKOVAN_HEAD_HXT48_READY; flag <= RIKKOVAN_HEAD_LPSYS_HXT48_READY; flag++)
+    for (flag = RIKKOVAN_HEAD_AT_HXT48_READY; flag <= RIKKOVAN_HEAD_AT_LPSYS_HXT48_READY; flag++)
         head[flag] = draw_one_in(input, 8) ? RIKKOVAN_NOT_READY : RIKKOVAN_READY;
-    head[RIKKOVAN_HEAD_BOOT_MODE] = draw_one_in(input, 8) ? RIKKOVAN_BOOT_STANDBY : draw(input);
-    head[RIKKOVAN_HEAD_WAKE_COUNT] = draw_one_in(input, 8) ? 255 : draw_below(input, 4);
+    head[RIKKOVAN_HEAD_AT_BOOT_MODE] = draw_one_in(input, 8) ? RIKKOVAN_BOOT_STANDBY : draw(input);
+    head[RIKKOVAN_HEAD_AT_WAKE_COUNT] = draw_one_in(input, 8) ? 255 : draw_below(input, 4);
 }
 
 /* A fit head with a few registers set, or one with any registers; either may then be damaged. */
 void draw_head(struct input *input, uint8_t head[RIKKOVAN_HEAD_BYTES])
 {
-    static const uint8_t empty[RIKKOVAN_HEAD_TASK(0)] = RIKKOVAN_EMPTY_HEAD;
+    static const uint8_t empty[RIKKOVAN_HEAD_AT_TASK(0)] = RIKKOVAN_EMPTY_HEAD;
     unsigned tasks, n;
 
     memset(head, draw(input), RIKKOVAN_HEAD_BYTES);
@@ -136,7 +138,7 @@ void draw_head(struct input *input, uint8_t head[RIKKOVAN_HEAD_BYTES])
     draw_flags(input, head);
     tasks = draw_one_in(input, 2) ? draw_below(input, RIKKOVAN_MOST_TASKS + 1) : 0;
     rikkovan_put_task_count(head, (uint8_t)tasks);
-    draw_tasks(input, head + RIKKOVAN_HEAD_TASK(0), tasks);
+    draw_tasks(input, head + RIKKOVAN_HEAD_AT_TASK(0), tasks);
     damage(input, head, RIKKOVAN_HEAD_BYTES);
 }
 
@@ -153,24 +155,24 @@ static void draw_plan_base(struct input *input, uint8_t *plan)
     memcpy(plan, usual, sizeof usual);
     switch (draw_below(input, 4)) {
     case 1: /* DLL1 at up to 240 MHz */
-        plan[RIKKOVAN_PLAN_DLL1_STAGE] = draw_below(input, 10);
-        plan[RIKKOVAN_PLAN_DLL1_HALF] = (uint8_t)draw_one_in(input, 4);
-        plan[RIKKOVAN_PLAN_USB] = 0;
+        plan[RIKKOVAN_PLAN_AT_DLL1_STAGE] = draw_below(input, 10);
+        plan[RIKKOVAN_PLAN_AT_DLL1_HALF] = (uint8_t)draw_one_in(input, 4);
+        plan[RIKKOVAN_PLAN_AT_USB] = 0;
         break;
     case 2: /* an oscillator, no DLL */
-        remove_dll(plan, RIKKOVAN_PLAN_DLL1_PRESENT);
-        remove_dll(plan, RIKKOVAN_PLAN_DLL2_PRESENT);
-        plan[RIKKOVAN_PLAN_CORE] = draw_below(input, 2);
-        plan[RIKKOVAN_PLAN_HDIV] = draw_below(input, 4);
-        plan[RIKKOVAN_PLAN_USB] = 0;
-        plan[RIKKOVAN_PLAN_MPI2] = RIKKOVAN_MPI_PERIPHERAL;
+        remove_dll(plan, RIKKOVAN_PLAN_AT_DLL1_PRESENT);
+        remove_dll(plan, RIKKOVAN_PLAN_AT_DLL2_PRESENT);
+        plan[RIKKOVAN_PLAN_AT_CORE] = draw_below(input, 2);
+        plan[RIKKOVAN_PLAN_AT_HDIV] = draw_below(input, 4);
+        plan[RIKKOVAN_PLAN_AT_USB] = 0;
+        plan[RIKKOVAN_PLAN_AT_MPI2] = RIKKOVAN_MPI_PERIPHERAL;
         break;
     case 3: /* USB from DLL2, which may be missing */
-        plan[RIKKOVAN_PLAN_DLL2_STAGE] = RIKKOVAN_STAGE_OF(240);
-        plan[RIKKOVAN_PLAN_USB_SOURCE] = RIKKOVAN_USB_DLL2;
-        plan[RIKKOVAN_PLAN_MPI2] = RIKKOVAN_MPI_PERIPHERAL;
+        plan[RIKKOVAN_PLAN_AT_DLL2_STAGE] = RIKKOVAN_STAGE_OF(240);
+        plan[RIKKOVAN_PLAN_AT_USB_SOURCE] = RIKKOVAN_USB_DLL2;
+        plan[RIKKOVAN_PLAN_AT_MPI2] = RIKKOVAN_MPI_PERIPHERAL;
         if (draw_one_in(input, 8))
-            remove_dll(plan, RIKKOVAN_PLAN_DLL2_PRESENT);
+            remove_dll(plan, RIKKOVAN_PLAN_AT_DLL2_PRESENT);
         break;
     }
 }
@@ -185,9 +187,9 @@ void draw_plan(struct input *input, uint8_t plan[RIKKOVAN_PLAN_BYTES])
 
     draw_plan_base(input, plan);
     for (n = draw_one_in(input, 2) ? draw_below(input, 3) : 0; n > 0; n--) {
-        unsigned at = RIKKOVAN_PLAN_CORE;
+        unsigned at = RIKKOVAN_PLAN_AT_CORE;
 
-        at += draw_below(input, RIKKOVAN_PLAN_BYTES - RIKKOVAN_PLAN_CORE);
+        at += draw_below(input, RIKKOVAN_PLAN_BYTES - RIKKOVAN_PLAN_AT_CORE);
         plan[at] = draw_below(input, largest[at] + 1u);
     }
     damage(input, plan, RIKKOVAN_PLAN_BYTES);

@@ -196,7 +196,7 @@ static int run_all(const char *program, uint64_t runs, uint64_t seed)
     return 1;
 }
 
-/* An input from its hex digits. Answers 0, or 2 where they are none. */
+/* An input from its hex digits. Returns 0, or 2 where they are none. */
 static int run_input(const char *hex)
 {
     struct bytes bytes;

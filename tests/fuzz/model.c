@@ -2,7 +2,7 @@
 
 static uint32_t byte_c(const uint8_t *head, uint32_t reg)
 {
-    return head[RIKKOVAN_HEAD_C(reg)];
+    return head[RIKKOVAN_HEAD_AT_C(reg)];
 }
 
 uint8_t largest_in_register(unsigned reg, unsigned byte)
@@ -30,15 +30,14 @@ uint32_t model_tasks_refusal(const uint8_t *tasks, unsigned count)
     unsigned k, other;
 
     for (k = 0; k < count; k++) {
-        const uint8_t *task = tasks + RIKKOVAN_TASK_BYTES * k;
+        struct rikkovan_task task = rikkovan_get_task(tasks, k);
 
-        if (!model_task_is_good(task[RIKKOVAN_TASK_ID], rikkovan_task_cycles(task),
-                                rikkovan_task_period_us(task)))
+        if (!model_task_is_good(task.id, task.cycles, task.period_us))
             return RIKKOVAN_REFUSED_TASK;
     }
     for (k = 0; k < count; k++)
         for (other = 0; other < k; other++)
-            if (tasks[RIKKOVAN_TASK_BYTES * k] == tasks[RIKKOVAN_TASK_BYTES * other])
+            if (rikkovan_get_task(tasks, k).id == rikkovan_get_task(tasks, other).id)
                 return RIKKOVAN_REFUSED_ID_IN_USE;
     return 0;
 }
@@ -54,16 +53,16 @@ uint64_t model_load(const uint8_t *tasks, unsigned count)
     unsigned k;
 
     for (k = 0; k < count; k++) {
-        const uint8_t *task = tasks + RIKKOVAN_TASK_BYTES * k;
+        struct rikkovan_task task = rikkovan_get_task(tasks, k);
 
-        load += model_share(rikkovan_task_cycles(task), rikkovan_task_period_us(task));
+        load += model_share(task.cycles, task.period_us);
     }
     return load;
 }
 
 uint64_t model_booked_load(const uint8_t *head)
 {
-    return model_load(head + RIKKOVAN_HEAD_TASK(0), head[RIKKOVAN_HEAD_TASKS]);
+    return model_load(head + RIKKOVAN_HEAD_AT_TASK(0), head[RIKKOVAN_HEAD_AT_TASK_COUNT]);
 }
 
 uint32_t model_head_refusal(const uint8_t *head, size_t len)
@@ -72,19 +71,19 @@ uint32_t model_head_refusal(const uint8_t *head, size_t len)
 
     if (len != RIKKOVAN_HEAD_BYTES)
         return RIKKOVAN_REFUSED_LENGTH;
-    tasks = head[RIKKOVAN_HEAD_TASKS];
+    tasks = head[RIKKOVAN_HEAD_AT_TASK_COUNT];
     if (tasks > RIKKOVAN_MOST_TASKS || rikkovan_get_16(head) != RIKKOVAN_HEAD_FOLLOWING(tasks))
         return RIKKOVAN_REFUSED_LENGTH;
-    if (head[RIKKOVAN_HEAD_VERSION] != 1)
+    if (head[RIKKOVAN_HEAD_AT_VERSION] != 1)
         return RIKKOVAN_REFUSED_VERSION;
     for (reg = 1; reg <= RIKKOVAN_REGISTERS; reg++)
         for (byte = 0; byte < 3; byte++)
-            if (head[RIKKOVAN_HEAD_A(reg) + byte] > largest_in_register(reg, byte))
+            if (head[RIKKOVAN_HEAD_AT_A(reg) + byte] > largest_in_register(reg, byte))
                 return RIKKOVAN_REFUSED_CODE;
-    for (flag = RIKKOVAN_HEAD_HXT48_READY; flag <= RIKKOVAN_HEAD_LPSYS_HXT48_READY; flag++)
+    for (flag = RIKKOVAN_HEAD_AT_HXT48_READY; flag <= RIKKOVAN_HEAD_AT_LPSYS_HXT48_READY; flag++)
         if (head[flag] > 1)
             return RIKKOVAN_REFUSED_CODE;
-    if (model_tasks_refusal(head + RIKKOVAN_HEAD_TASK(0), tasks) != 0)
+    if (model_tasks_refusal(head + RIKKOVAN_HEAD_AT_TASK(0), tasks) != 0)
         return RIKKOVAN_REFUSED_CODE;
     return 0;
 }
@@ -96,21 +95,21 @@ static uint32_t divided(uint32_t hz, uint8_t divider)
 
 static uint32_t oscillator(const uint8_t *head, int hxt48)
 {
-    int flag = hxt48 ? RIKKOVAN_HEAD_HXT48_READY : RIKKOVAN_HEAD_HRC48_READY;
+    int flag = hxt48 ? RIKKOVAN_HEAD_AT_HXT48_READY : RIKKOVAN_HEAD_AT_HRC48_READY;
 
     return head[flag] == RIKKOVAN_READY ? RIKKOVAN_OSCILLATOR_HZ : 0;
 }
 
 uint32_t model_hclk(const uint8_t *head)
 {
-    const uint8_t *dll1 = head + RIKKOVAN_HEAD_A(RIKKOVAN_REG_DLL1);
+    const uint8_t *dll1 = head + RIKKOVAN_HEAD_AT_A(RIKKOVAN_REG_DLL1);
     uint32_t core = byte_c(head, RIKKOVAN_REG_SYSCLK), hz = 0;
 
     if (core == RIKKOVAN_CORE_HRC48 || core == RIKKOVAN_CORE_HXT48)
         hz = oscillator(head, core == RIKKOVAN_CORE_HXT48);
     if (core == RIKKOVAN_CORE_DLL1 && dll1[0] == 1)
         hz = rikkovan_dll_hz(dll1[2], dll1[1]);
-    return divided(hz, head[RIKKOVAN_HEAD_A(RIKKOVAN_REG_HPSYS_CFGR)]);
+    return divided(hz, head[RIKKOVAN_HEAD_AT_A(RIKKOVAN_REG_HPSYS_CFGR)]);
 }
 
 uint32_t model_lpsys_hclk(const uint8_t *head)
@@ -118,7 +117,7 @@ uint32_t model_lpsys_hclk(const uint8_t *head)
     uint32_t source = byte_c(head, RIKKOVAN_REG_LPSYS_SYSCLK);
 
     return divided(oscillator(head, source == RIKKOVAN_LPSYS_HXT48),
-                   head[RIKKOVAN_HEAD_A(RIKKOVAN_REG_LPSYS_CFGR)]);
+                   head[RIKKOVAN_HEAD_AT_A(RIKKOVAN_REG_LPSYS_CFGR)]);
 }
 
 /* The HCLK of a plan that is accepted. */
@@ -126,9 +125,9 @@ uint32_t model_plan_hclk(const uint8_t *plan)
 {
     uint32_t hz = RIKKOVAN_OSCILLATOR_HZ;
 
-    if (plan[RIKKOVAN_PLAN_CORE] == RIKKOVAN_CORE_DLL1)
-        hz = rikkovan_dll_hz(plan[RIKKOVAN_PLAN_DLL1_STAGE], plan[RIKKOVAN_PLAN_DLL1_HALF]);
-    return divided(hz, plan[RIKKOVAN_PLAN_HDIV]);
+    if (plan[RIKKOVAN_PLAN_AT_CORE] == RIKKOVAN_CORE_DLL1)
+        hz = rikkovan_dll_hz(plan[RIKKOVAN_PLAN_AT_DLL1_STAGE], plan[RIKKOVAN_PLAN_AT_DLL1_HALF]);
+    return divided(hz, plan[RIKKOVAN_PLAN_AT_HDIV]);
 }
 
 static uint32_t rail_limit(const uint8_t *head)
@@ -150,13 +149,13 @@ static uint32_t rail_limit(const uint8_t *head)
 
 static int flash_is_off(const uint8_t *head, uint8_t select)
 {
-    return (select == RIKKOVAN_MPI_DLL1 && head[RIKKOVAN_HEAD_A(RIKKOVAN_REG_DLL1)] == 0) ||
-           (select == RIKKOVAN_MPI_DLL2 && head[RIKKOVAN_HEAD_A(RIKKOVAN_REG_DLL2)] == 0);
+    return (select == RIKKOVAN_MPI_DLL1 && head[RIKKOVAN_HEAD_AT_A(RIKKOVAN_REG_DLL1)] == 0) ||
+           (select == RIKKOVAN_MPI_DLL2 && head[RIKKOVAN_HEAD_AT_A(RIKKOVAN_REG_DLL2)] == 0);
 }
 
 int model_is_fit(const uint8_t *head)
 {
-    const uint8_t *flash = head + RIKKOVAN_HEAD_A(RIKKOVAN_REG_FLASH);
+    const uint8_t *flash = head + RIKKOVAN_HEAD_AT_A(RIKKOVAN_REG_FLASH);
     uint32_t hclk = model_hclk(head), lpsys = model_lpsys_hclk(head);
 
     return hclk != 0 && hclk <= rail_limit(head) && !flash_is_off(head, flash[1]) &&

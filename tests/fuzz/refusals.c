@@ -2,15 +2,15 @@
 
 static uint32_t plan_refusal(const struct lent *given)
 {
-    return (uint32_t)rikkovan_plan_check(given->at[PLAN], given->len[PLAN]);
+    return rikkovan_plan_refusal(rikkovan_plan_check(given->at[PLAN], given->len[PLAN]));
 }
 
 static int has_task(const uint8_t *head, uint8_t id)
 {
     unsigned k;
 
-    for (k = 0; k < head[RIKKOVAN_HEAD_TASKS]; k++)
-        if (head[RIKKOVAN_HEAD_TASK(k)] == id)
+    for (k = 0; k < rikkovan_get_task_count(head); k++)
+        if (rikkovan_get_head_task(head, k).id == id)
             return 1;
     return 0;
 }
@@ -23,7 +23,7 @@ static uint32_t book_refusal(const struct lent *given, const uint8_t *head)
         return RIKKOVAN_REFUSED_TASK;
     if (has_task(head, given->byte[0]))
         return RIKKOVAN_REFUSED_ID_IN_USE;
-    if (head[RIKKOVAN_HEAD_TASKS] == RIKKOVAN_MOST_TASKS)
+    if (rikkovan_get_task_count(head) == RIKKOVAN_MOST_TASKS)
         return RIKKOVAN_REFUSED_TASKS;
     if (model_hclk(head) == 0)
         return RIKKOVAN_REFUSED_HCLK_UNREADABLE;
@@ -40,9 +40,9 @@ static uint32_t change_refusal(const struct lent *given, const uint8_t *head)
         return plan_refusal(given);
     if (!model_is_fit(head))
         return RIKKOVAN_REFUSED_UNFIT;
-    if (head[RIKKOVAN_HEAD_HXT48_READY] != RIKKOVAN_READY ||
-        (plan[RIKKOVAN_PLAN_CORE] == RIKKOVAN_CORE_HRC48 &&
-         head[RIKKOVAN_HEAD_HRC48_READY] != RIKKOVAN_READY))
+    if (rikkovan_get_flag(head, RIKKOVAN_FLAG_HXT48) != RIKKOVAN_READY ||
+        (rikkovan_get_plan(plan).core == RIKKOVAN_CORE_HRC48 &&
+         rikkovan_get_flag(head, RIKKOVAN_FLAG_HRC48) != RIKKOVAN_READY))
         return RIKKOVAN_REFUSED_OSCILLATOR;
     return model_booked_load(head) > model_plan_hclk(plan) ? RIKKOVAN_REFUSED_LOAD : 0;
 }
@@ -64,8 +64,9 @@ static uint32_t own_refusal(enum which which, const struct lent *given, const ui
     case SELECT_SYSCLK:
     case SELECT_PERI: return given->byte[1] > RIKKOVAN_LPSYS_HXT48 ? RIKKOVAN_REFUSED_CODE : 0;
     case CALIBRATE:
-        return head[RIKKOVAN_HEAD_HXT48_READY] != RIKKOVAN_READY ? RIKKOVAN_REFUSED_HXT48_NOT_READY
-                                                                 : 0;
+        return rikkovan_get_flag(head, RIKKOVAN_FLAG_HXT48) == RIKKOVAN_READY
+                   ? 0
+                   : RIKKOVAN_REFUSED_HXT48_NOT_READY;
     case INIT:
     case RECONFIGURE: return plan_refusal(given);
     case BOOK: return book_refusal(given, head);

@@ -26,7 +26,7 @@ writes() { # ARGUMENT..
 
 # A refusal number in the words of the header.
 words() { # NUMBER
-    sed -n "s/^    case $1: return \"\(.*\)\";$/\1/p" include/rikkovan.h
+    sed -n "s/^    ROW($1, [A-Z0-9_]*, \"\(.*\)\").*/\1/p" include/rikkovan.h
 }
 
 # So many lines, of which the last one is the refusal.

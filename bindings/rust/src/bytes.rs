@@ -22,14 +22,14 @@ use crate::word::Word;
 /// Checks a plan record: 0 where it is accepted, else a refusal number from 1 to 14.
 #[inline]
 pub fn plan_check(plan: &[u8]) -> u64 {
-    unsafe { sys::rikkovan_plan_check(plan.as_ptr(), plan.len()) }
+    unsafe { sys::rikkovan_plan_check(plan.as_ptr(), plan.len() as u64) }
 }
 
 /// Reads the 15 frequencies of a head, in the order of [`Clocks`](crate::Clocks), 0 for none.
 #[inline]
 pub fn read_clocks(head: &[u8], clocks: &mut [u32; CLOCKS]) -> Word {
     let clocks = clocks.as_mut_ptr();
-    Word(unsafe { sys::rikkovan_read_clocks(head.as_ptr(), head.len(), clocks) })
+    Word(unsafe { sys::rikkovan_read_clocks(head.as_ptr(), head.len() as u64, clocks) })
 }
 
 /// Reads the six frequencies of LPSYS, in the order of [`LpsysClocks`](crate::LpsysClocks), 0 for
@@ -37,25 +37,25 @@ pub fn read_clocks(head: &[u8], clocks: &mut [u32; CLOCKS]) -> Word {
 #[inline]
 pub fn read_lpsys(head: &[u8], lpsys: &mut [u32; LPSYS_CLOCKS]) -> Word {
     let lpsys = lpsys.as_mut_ptr();
-    Word(unsafe { sys::rikkovan_read_lpsys(head.as_ptr(), head.len(), lpsys) })
+    Word(unsafe { sys::rikkovan_read_lpsys(head.as_ptr(), head.len() as u64, lpsys) })
 }
 
 /// Checks a list of tasks; the word has the load.
 #[inline]
 pub fn load_check(tasks: &[u8]) -> Word {
-    Word(unsafe { sys::rikkovan_load_check(tasks.as_ptr(), tasks.len()) })
+    Word(unsafe { sys::rikkovan_load_check(tasks.as_ptr(), tasks.len() as u64) })
 }
 
 /// Books a task on a head.
 #[inline]
 pub fn book(head: &mut [u8], id: u8, cycles: u32, period_us: u32) -> Word {
-    Word(unsafe { sys::rikkovan_book(head.as_mut_ptr(), head.len(), id, cycles, period_us) })
+    Word(unsafe { sys::rikkovan_book(head.as_mut_ptr(), head.len() as u64, id, cycles, period_us) })
 }
 
 /// Releases a task of a head.
 #[inline]
 pub fn release(head: &mut [u8], id: u8) -> Word {
-    Word(unsafe { sys::rikkovan_release(head.as_mut_ptr(), head.len(), id) })
+    Word(unsafe { sys::rikkovan_release(head.as_mut_ptr(), head.len() as u64, id) })
 }
 
 /// Changes the core clock of a fit head, guarded.
@@ -64,13 +64,13 @@ pub fn change(head: &mut [u8], plan: &[u8], journal: &mut [u32], answers: &[u16]
     Word(unsafe {
         sys::rikkovan_change(
             head.as_mut_ptr(),
-            head.len(),
+            head.len() as u64,
             plan.as_ptr(),
-            plan.len(),
+            plan.len() as u64,
             journal.as_mut_ptr(),
-            journal.len(),
+            journal.len() as u64,
             answers.as_ptr(),
-            answers.len(),
+            answers.len() as u64,
         )
     })
 }
@@ -81,8 +81,8 @@ macro_rules! lent_journal {
         $($(#[$about])*
         #[inline]
         pub fn $name(head: &mut [u8], $($number: $type,)* journal: &mut [u32]) -> Word {
-            let (words, journal_len) = (journal.as_mut_ptr(), journal.len());
-            let (head, head_len) = (head.as_mut_ptr(), head.len());
+            let (words, journal_len) = (journal.as_mut_ptr(), journal.len() as u64);
+            let (head, head_len) = (head.as_mut_ptr(), head.len() as u64);
             Word(unsafe { sys::$exported(head, head_len, $($number,)* words, journal_len) })
         })*
     };
@@ -116,11 +116,11 @@ macro_rules! lent_answers {
             Word(unsafe {
                 sys::$exported(
                     head.as_mut_ptr(),
-                    head.len(),
+                    head.len() as u64,
                     journal.as_mut_ptr(),
-                    journal.len(),
+                    journal.len() as u64,
                     answers.as_ptr(),
-                    answers.len(),
+                    answers.len() as u64,
                 )
             })
         })*
@@ -151,14 +151,14 @@ macro_rules! lent_clocks {
             Word(unsafe {
                 sys::$exported(
                     head.as_mut_ptr(),
-                    head.len(),
+                    head.len() as u64,
                     plan.as_ptr(),
-                    plan.len(),
+                    plan.len() as u64,
                     clocks.as_mut_ptr(),
                     journal.as_mut_ptr(),
-                    journal.len(),
+                    journal.len() as u64,
                     answers.as_ptr(),
-                    answers.len(),
+                    answers.len() as u64,
                 )
             })
         })*

@@ -1,6 +1,6 @@
 //! The constants of the crate and those of `rikkovan.h`.
 
-use crate::header::{between, defined};
+use crate::header::{between, defined, refusals};
 use rikkovan::rcc::{Mpisel, Perisel, Sysclk, Usbsel, Wdtsel};
 use rikkovan::{
     CLOCKS, Clocks, Entry, Head, Hertz, JOURNAL_WORDS, LPSYS_CLOCKS, LpsysClocks, LpsysSource,
@@ -34,7 +34,6 @@ macro_rules! cases {
 /// What the crate has for the names of the header, but for the places in records.
 fn constants() -> BTreeMap<String, u64> {
     let others = [
-        ("ACCEPTED", 0),
         ("PLAN_BYTES", Plan::BYTES),
         ("HEAD_BYTES", Head::BYTES),
         ("TASK_BYTES", Task::BYTES),
@@ -62,7 +61,7 @@ fn constants() -> BTreeMap<String, u64> {
 
 /// What the header names and the crate does not: codes of bytes that are plain numbers here, limits
 /// that the types have, and the rows of the supply modes.
-const UNNAMED: [&str; 29] = [
+const UNNAMED: [&str; 32] = [
     "BOOT_STANDBY",
     "D0_BUCK",
     "D0_LDO",
@@ -72,6 +71,9 @@ const UNNAMED: [&str; 29] = [
     "ENTRY_WAIT",
     "HPSYS_SUPPLY_D",
     "HPSYS_SUPPLY_S",
+    "LIBRARY_MAJOR",
+    "LIBRARY_MINOR",
+    "LIBRARY_PATCH",
     "LPSYS_MOST_MHZ",
     "LPSYS_SUPPLY_D",
     "LPSYS_SUPPLY_S",
@@ -104,7 +106,10 @@ fn is_unnamed(name: &str) -> bool {
 
 #[test]
 fn constants_are_those_of_the_header() {
-    let stated = defined().filter(|(name, _)| !is_unnamed(name));
+    let refusals = refusals().map(|(number, name, _)| (name, number.into()));
+    let stated = defined()
+        .chain(refusals)
+        .filter(|(name, _)| !is_unnamed(name));
     let stated: BTreeMap<String, u64> = stated.map(|(name, n)| (name.to_string(), n)).collect();
     assert_eq!(constants(), stated);
 }

@@ -14,6 +14,16 @@ pub fn defined() -> impl Iterator<Item = (&'static str, u64)> {
     })
 }
 
+/// The refusals of the header's table: number, name without `RIKKOVAN_`, words.
+pub fn refusals() -> impl Iterator<Item = (u32, &'static str, &'static str)> {
+    HEADER.lines().filter_map(|line| {
+        let row = line.trim().strip_prefix("ROW(")?;
+        let (number, row) = row.split_once(", RIKKOVAN_")?;
+        let (name, row) = row.split_once(", \"")?;
+        Some((number.parse().ok()?, name, row.split_once("\")")?.0))
+    })
+}
+
 /// The text after `from`, up to `to`.
 pub fn between(from: &str, to: &str) -> &'static str {
     let (_, rest) = HEADER.split_once(from).expect(from);
@@ -22,21 +32,13 @@ pub fn between(from: &str, to: &str) -> &'static str {
 
 #[test]
 fn refusals_have_the_words_of_the_header() {
-    let text = between("rikkovan_refusal_text(uint64_t number)", "default:");
-    let case = |line: &'static str| {
-        let (number, words) = line
-            .trim()
-            .strip_prefix("case ")?
-            .split_once(": return \"")?;
-        Some((number.parse().ok()?, words.strip_suffix("\";")?))
-    };
-    let stated: Vec<(u32, &str)> = text.lines().filter_map(case).collect();
-    let mut ours = vec![(0, "not refused")];
-    ours.extend(
-        Refusal::ALL
-            .iter()
-            .map(|refusal| (refusal.number(), refusal.words())),
-    );
+    let stated: Vec<(u32, &str)> = refusals()
+        .map(|(number, _, words)| (number, words))
+        .collect();
+    let ours = Refusal::ALL.iter();
+    let ours: Vec<(u32, &str)> = ours
+        .map(|refusal| (refusal.number(), refusal.words()))
+        .collect();
     assert_eq!(ours, stated);
 }
 
@@ -74,6 +76,7 @@ fn declaration(prototype: &str) -> String {
 }
 
 fn parameter(stated: &str) -> String {
+    let stated = stated.replace("[RIKKOVAN_RESTRICT ", "[");
     let (kind, name) = stated.trim().rsplit_once(' ').expect("a type and a name");
     let (name, array) = name
         .split_once('[')
@@ -81,6 +84,9 @@ fn parameter(stated: &str) -> String {
     let (name, pointer) = name
         .strip_prefix('*')
         .map_or((name, array), |name| (name, true));
+    let (kind, pointer) = kind
+        .strip_suffix(" *RIKKOVAN_RESTRICT")
+        .map_or((kind, pointer), |kind| (kind, true));
     let (kind, constant) = kind
         .strip_prefix("const ")
         .map_or((kind, false), |kind| (kind, true));
@@ -88,7 +94,7 @@ fn parameter(stated: &str) -> String {
         "uint8_t" => "u8",
         "uint16_t" => "u16",
         "uint32_t" => "u32",
-        "size_t" => "usize",
+        "uint64_t" => "u64",
         other => panic!("{other} in {stated}"),
     };
     match (pointer, constant) {

@@ -10,8 +10,7 @@ fn places(prefix: &'static str) -> impl Iterator<Item = (&'static str, usize)> {
     let place = move |(name, number): (&'static str, u64)| {
         Some((name.strip_prefix(prefix)?, usize::try_from(number).ok()?))
     };
-    let named = defined().filter_map(place);
-    named.filter(|&(name, _)| name != "BYTES")
+    defined().filter_map(place)
 }
 
 /// The byte of a plan's record that C has this name for.
@@ -65,7 +64,7 @@ fn of_a_plan() {
     ];
     for plan in changes.map(changed) {
         let record = plan.to_record();
-        for (name, place) in places("PLAN_") {
+        for (name, place) in places("PLAN_AT_") {
             assert_eq!(record[place], field(&plan, name), "{name} of {plan:?}");
         }
     }
@@ -78,7 +77,7 @@ fn of_a_head() {
         head.set_boot_mode(3);
         head.set_wake_count(200);
         head.set_ready(*unready, false);
-        for (name, place) in places("HEAD_") {
+        for (name, place) in places("HEAD_AT_") {
             let expected = match name {
                 "LENGTH" => 0,
                 "VERSION" => 1,
@@ -87,7 +86,7 @@ fn of_a_head() {
                 "LPSYS_HXT48_READY" => head.is_ready(ReadyFlag::LpsysHxt48).into(),
                 "BOOT_MODE" => 3,
                 "WAKE_COUNT" => 200,
-                "TASKS" => 2,
+                "TASK_COUNT" => 2,
                 other => panic!("{other}"),
             };
             assert_eq!(head.as_bytes()[place], expected, "{name}");
@@ -103,7 +102,7 @@ fn of_a_task() {
         period_us: 0x0006_0708,
     };
     let record = task.to_record();
-    for (name, place) in places("TASK_") {
+    for (name, place) in places("TASK_AT_") {
         match name {
             "ID" => assert_eq!(record[place], 7),
             "CYCLES" => assert_eq!(record[place..place + 4], [1, 2, 3, 4]),
