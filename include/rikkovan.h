@@ -1238,6 +1238,36 @@ uint64_t rikkovan_change(uint8_t *RIKKOVAN_RESTRICT head, uint64_t head_len, con
                          uint64_t journal_len, const uint16_t *answers, uint64_t answers_len);
 
 /*
+ * The stack
+ * =========
+ *
+ * The bytes of stack that a call needs at most, from its return address down, as the library is
+ * compiled for x86-64: the deepest way through its machine code, rounded up to 256. No call
+ * recurses. What memcpy of the C library needs comes on top, and where a program is linked so that
+ * it looks memcpy up at the first call, what the dynamic linker needs then.
+ */
+#define RIKKOVAN_STACK_PLAN_CHECK 256
+#define RIKKOVAN_STACK_READ_CLOCKS 1280
+#define RIKKOVAN_STACK_READ_LPSYS 1280
+#define RIKKOVAN_STACK_CONFIG_LPSYS_HCLK_MHZ 3328
+#define RIKKOVAN_STACK_ENSURE_SAFE_LCPU_FREQUENCY 2560
+#define RIKKOVAN_STACK_SET_LPSYS_HDIV 2560
+#define RIKKOVAN_STACK_SET_LPSYS_DIV 2816
+#define RIKKOVAN_STACK_CONFIG_LPSYS_MAC_CLOCK 2816
+#define RIKKOVAN_STACK_SELECT_LPSYS_SYSCLK 2816
+#define RIKKOVAN_STACK_SELECT_LPSYS_PERI 2816
+#define RIKKOVAN_STACK_CANCEL_LCPU_ACTIVE_REQUEST 2560
+#define RIKKOVAN_STACK_WAKE_LCPU 2816
+#define RIKKOVAN_STACK_ENSURE_HXT48_READY 3072
+#define RIKKOVAN_STACK_CALIBRATE_HRC48 3328
+#define RIKKOVAN_STACK_INIT 9216
+#define RIKKOVAN_STACK_RECONFIGURE_SYSCLK 6656
+#define RIKKOVAN_STACK_LOAD_CHECK 512
+#define RIKKOVAN_STACK_BOOK 2048
+#define RIKKOVAN_STACK_RELEASE 2048
+#define RIKKOVAN_STACK_CHANGE 5120
+
+/*
  * Each call on a head as a macro, which makes the word that it returns a rikkovan_answer.
  */
 #define rikkovan_read_clocks(...) rikkovan_answer_of(rikkovan_read_clocks(__VA_ARGS__))

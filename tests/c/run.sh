@@ -79,6 +79,16 @@ versions_agree() {
         grep -x "version = \"$version\"" bindings/rust/Cargo.toml
 }
 
+# A line for each call that needs more stack than the header says, or of which it says nothing.
+stack_is_within_the_header() {
+    local call bytes stated
+    while read -r call bytes; do
+        stated=$(sed -n "s/^#define RIKKOVAN_STACK_${call#rikkovan_} //Ip" include/rikkovan.h)
+        [ "${stated:-0}" -ge "$bytes" ] || echo "$call: $bytes bytes, ${stated:-none} in the header"
+    done < <(tools/stack.sh "$library" || echo 'all 1') >"$work/deeper"
+    diff /dev/null "$work/deeper"
+}
+
 library_has_every_call() {
     diff <(header_calls) \
         <(nm -g --defined-only "$library" | sed -n 's/.* T \(rikkovan_.*\)/\1/p' | sort)
@@ -208,6 +218,8 @@ check 'the other LPSYS calls' calls lpsys_calls
 check 'calibration, init and reconfigure' calls clock_config
 check 'load check, booking and release' calls tasks
 check 'guarded change' calls change
+check_with objdump 'no call needs more stack than the header says' stack_is_within_the_header
+check 'calls on a painted stack' calls stack
 check 'make-plans.sh writes the shipped plans' plans_are_made_again
 check 'make-tasks.sh writes the shipped tasks' tasks_are_made_again
 check 'daemon on the shipped plans' daemon_on_plans

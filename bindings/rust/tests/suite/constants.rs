@@ -96,12 +96,12 @@ const UNNAMED: [&str; 32] = [
     "S1_LDO",
 ];
 
-/// These, and the places in records.
+/// These, what is of records, and the stack that calls need.
 fn is_unnamed(name: &str) -> bool {
-    let is_place = ["PLAN_", "HEAD_", "TASK_"]
+    let is_group = ["PLAN_", "HEAD_", "TASK_", "STACK_"]
         .iter()
-        .any(|record| name.starts_with(record));
-    UNNAMED.contains(&name) || is_place && !name.ends_with("_BYTES")
+        .any(|group| name.starts_with(group));
+    UNNAMED.contains(&name) || is_group && !name.ends_with("_BYTES")
 }
 
 #[test]
