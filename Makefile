@@ -11,6 +11,8 @@ STRICT = -Wall -Wextra -pedantic -Wconversion -Wsign-conversion -Werror
 RT = tools/rt.sh
 # Cargo takes no part in make's own count of jobs.
 CARGO = MAKEFLAGS= cargo
+WITH_CRATE = --quiet --offline --manifest-path bindings/rust/Cargo.toml
+CHIP = thumbv8m.main-none-eabi
 WITH_ORACLE = --release --quiet --offline --manifest-path oracle/Cargo.toml
 ORACLE = oracle/target/release/oracle
 SANITIZE = -O1 -g -fsanitize=address,undefined -fno-sanitize-recover=all
@@ -92,7 +94,10 @@ test-c: build/daemon $(PROGRAMS)
 	@CC='$(CC)' CXX='$(CXX)' tests/c/run.sh
 
 test-rust: $(LIBRARY)
-	$(CARGO) test -j1 --quiet --offline --manifest-path bindings/rust/Cargo.toml
+	$(CARGO) test -j1 $(WITH_CRATE)
+	$(CARGO) run $(WITH_CRATE) --example firmware >/dev/null
+	@if [ -d "$$(rustc --print target-libdir --target $(CHIP))" ]; then $(CARGO) check $(WITH_CRATE) --target $(CHIP); \
+		else echo 'test-rust: skipped: a check for $(CHIP) (the target is not installed)'; fi
 
 build/fuzz: $(FUZZ) tests/fuzz/fuzz.h include/rikkovan.h $(LIBRARY)
 	@mkdir -p build

@@ -89,7 +89,7 @@ pub fn side(call: &Call) -> Side {
 
 /// The bytes are lent so that a store into them would be seen.
 fn load_check(tasks: &mut [u8]) -> u64 {
-    let answer = bytes::load_check(tasks).bits();
+    let answer = bytes::load_check(tasks);
     black_box(tasks);
     answer
 }

@@ -40,10 +40,10 @@ pub fn read_lpsys(head: &[u8], lpsys: &mut [u32; LPSYS_CLOCKS]) -> Word {
     Word(unsafe { sys::rikkovan_read_lpsys(head.as_ptr(), head.len() as u64, lpsys) })
 }
 
-/// Checks a list of tasks; the word has the load.
+/// Checks a list of tasks: the load, or a refusal number with bit 63 set.
 #[inline]
-pub fn load_check(tasks: &[u8]) -> Word {
-    Word(unsafe { sys::rikkovan_load_check(tasks.as_ptr(), tasks.len() as u64) })
+pub fn load_check(tasks: &[u8]) -> u64 {
+    unsafe { sys::rikkovan_load_check(tasks.as_ptr(), tasks.len() as u64) }
 }
 
 /// Books a task on a head.

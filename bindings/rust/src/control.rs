@@ -2,8 +2,9 @@
 
 use crate::bytes;
 use crate::call::Outcome;
-use crate::clocks::{CLOCKS, Clocks};
+use crate::clocks::{Clocks, CLOCKS};
 use crate::head::Head;
+use crate::journal::Journal;
 use crate::plan::Plan;
 use crate::refusal::Refusal;
 use crate::task::Task;
@@ -27,28 +28,31 @@ impl Head {
     /// `AnswersRanOut`, which keeps what was done so far.
     ///
     /// ```
-    /// use rikkovan::{Entry, Head, Hertz, Plan, Register, WaitKind};
+    /// use rikkovan::{Entry, Head, Hertz, Journal, Plan, Register, WaitKind};
     ///
     /// // On HXT48 at 48 MHz, supply D.
     /// let mut head = Head::from_bytes(&std::fs::read("../../examples/heads/d48.head")?)?;
-    /// let done = head.change(&Plan::DEFAULT, &[0, 1])?;
+    /// let mut journal = Journal::new();
+    /// let done = head.change(&Plan::DEFAULT, &mut journal, &[0, 1])?;
     /// assert_eq!(head.clocks().hclk, Some(Hertz(240_000_000)));
     ///
     /// // The supply rises before the clock.
     /// let buck = Entry::Store { register: Register::BuckVout, value: 15 };
     /// let core = Entry::Store { register: Register::Sysclk, value: 3 };
-    /// assert_eq!(done.journal[0], buck);
-    /// assert!(done.journal[1..].contains(&core));
+    /// assert_eq!(journal.get(0), Some(buck));
+    /// assert!(journal.iter().skip(1).any(|entry| entry == core));
     ///
     /// // DLL1 was ready at the second poll.
     /// let wait = Entry::Wait { kind: WaitKind::Dll1, answers: 2 };
-    /// assert!(done.journal.contains(&wait));
+    /// assert!(journal.iter().any(|entry| entry == wait));
     /// assert_eq!(done.taken, 2);
     /// # Ok::<(), Box<dyn std::error::Error>>(())
     /// ```
-    pub fn change(&mut self, plan: &Plan, answers: &[u16]) -> Outcome {
+    pub fn change(&mut self, plan: &Plan, journal: &mut Journal, answers: &[u16]) -> Outcome {
         let plan = plan.to_record();
-        self.perform(|head, journal| bytes::change(head, &plan, journal, answers))
+        self.perform(journal, |head, words| {
+            bytes::change(head, &plan, words, answers)
+        })
     }
 
     /// Brings up the clocks of a head that boots, as a plan has them. The flash clocks of the plan
@@ -56,14 +60,15 @@ impl Head {
     ///
     /// Refusals: `Answers`, the plan's (4 to 14); and with what was done so far kept, `OnHrc48`,
     /// `HclkUnreadable`, `PresentHclk` and `AnswersRanOut`.
-    pub fn init(&mut self, plan: &Plan, answers: &[u16]) -> Outcome<Booted> {
+    pub fn init(&mut self, plan: &Plan, journal: &mut Journal, answers: &[u16]) -> Outcome<Booted> {
         let plan = plan.to_record();
         let mut clocks = [0; CLOCKS];
-        let outcome =
-            self.call(|head, journal| bytes::init(head, &plan, &mut clocks, journal, answers));
+        let outcome = self.call(journal, |head, words| {
+            bytes::init(head, &plan, &mut clocks, words, answers)
+        });
         let booted = |value| Booted {
             clocks: clocks.into(),
-            uncalibrated: Refusal::answered(value),
+            uncalibrated: Refusal::unless_0(value),
         };
         outcome.map(|done| done.map(booted))
     }
@@ -80,12 +85,13 @@ impl Head {
         &mut self,
         plan: &Plan,
         former: Clocks,
+        journal: &mut Journal,
         answers: &[u16],
     ) -> Outcome<Clocks> {
         let plan = plan.to_record();
         let mut clocks = former.into();
-        let outcome = self.call(|head, journal| {
-            bytes::reconfigure_sysclk(head, &plan, &mut clocks, journal, answers)
+        let outcome = self.call(journal, |head, words| {
+            bytes::reconfigure_sysclk(head, &plan, &mut clocks, words, answers)
         });
         outcome.map(|done| done.map(|_| clocks.into()))
     }
@@ -94,8 +100,10 @@ impl Head {
     ///
     /// Refusals: `Answers`, `Hxt48NotReady`; and with what was done so far kept, `HclkUnreadable`,
     /// `AnswersRanOut`, and at the end `Difference`.
-    pub fn calibrate_hrc48(&mut self, answers: &[u16]) -> Outcome {
-        self.perform(|head, journal| bytes::calibrate_hrc48(head, journal, answers))
+    pub fn calibrate_hrc48(&mut self, journal: &mut Journal, answers: &[u16]) -> Outcome {
+        self.perform(journal, |head, words| {
+            bytes::calibrate_hrc48(head, words, answers)
+        })
     }
 
     /// Books a task, where the present HCLK carries it beside the tasks that are booked.

@@ -1,11 +1,11 @@
 //! The head record.
 
 use crate::bytes;
-use crate::clocks::{CLOCKS, Clocks, LPSYS_CLOCKS, LpsysClocks};
+use crate::clocks::{Clocks, LpsysClocks, CLOCKS, LPSYS_CLOCKS};
 use crate::numbered::numbered;
 use crate::refusal::Refusal;
 use crate::register::Register;
-use crate::task::Task;
+use crate::task::{load_of, Task};
 
 const BOOT_MODE: usize = 108;
 const WAKE_COUNT: usize = 109;
@@ -93,7 +93,7 @@ impl Head {
     }
 
     /// Sets a ready flag.
-    pub const fn set_ready(&mut self, flag: ReadyFlag, ready: bool) {
+    pub fn set_ready(&mut self, flag: ReadyFlag, ready: bool) {
         self.bytes[flag.number() as usize] = ready as u8;
     }
 
@@ -103,7 +103,7 @@ impl Head {
     }
 
     /// Sets the boot mode.
-    pub const fn set_boot_mode(&mut self, mode: u8) {
+    pub fn set_boot_mode(&mut self, mode: u8) {
         self.bytes[BOOT_MODE] = mode;
     }
 
@@ -113,19 +113,19 @@ impl Head {
     }
 
     /// Sets the wake count.
-    pub const fn set_wake_count(&mut self, count: u8) {
+    pub fn set_wake_count(&mut self, count: u8) {
         self.bytes[WAKE_COUNT] = count;
     }
 
     /// The booked tasks, in the order of their places.
-    pub fn tasks(&self) -> impl ExactSizeIterator<Item = Task> {
-        let (records, _) = self.task_bytes().as_chunks();
-        records.iter().copied().map(Task::from_record)
+    pub fn tasks(&self) -> impl ExactSizeIterator<Item = Task> + '_ {
+        let records = self.task_bytes().chunks_exact(Task::BYTES);
+        records.map(|record| Task::from_record(record.try_into().expect("nine bytes")))
     }
 
     /// The load of the booked tasks, in cycles per second.
     pub fn load(&self) -> u64 {
-        bytes::load_check(self.task_bytes()).load()
+        load_of(self.task_bytes()).expect("the tasks of a head that is accepted")
     }
 
     /// The 15 frequencies.

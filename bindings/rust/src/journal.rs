@@ -2,7 +2,9 @@
 
 use crate::numbered::numbered;
 use crate::register::Register;
-use std::ops::Deref;
+use crate::word::Word;
+use core::fmt::{self, Debug, Formatter};
+use core::slice;
 
 /// The fewest words of a journal that is lent to a call on bytes.
 pub const JOURNAL_WORDS: usize = 128;
@@ -88,22 +90,114 @@ impl Entry {
     }
 }
 
-/// The entries of a call, in the order in which they came: a slice of [`Entry`].
-#[derive(Debug, Clone, PartialEq, Eq, Default)]
-pub struct Journal(Vec<Entry>);
+/// What a call did: its entries, in the order in which they came. A call that is lent a journal
+/// writes it anew.
+///
+/// ```
+/// use rikkovan::{Entry, Head, Journal, Register};
+///
+/// let mut journal = Journal::new();
+/// Head::new().set_lpsys_hdiv(2, &mut journal)?;
+/// let store = Entry::Store { register: Register::LpsysCfgr, value: 0x02_0000 };
+/// assert!(journal.iter().eq([store]));
+/// # Ok::<(), rikkovan::Refused>(())
+/// ```
+#[derive(Clone)]
+pub struct Journal {
+    words: [u32; JOURNAL_WORDS],
+    len: usize,
+}
 
 impl Journal {
-    /// From words that the library wrote.
-    pub(crate) fn written(words: &[u32]) -> Self {
-        let entry = |&word| Entry::from_word(word).expect("an entry of librikkovan.a");
-        Self(words.iter().map(entry).collect())
+    /// Without an entry.
+    pub const fn new() -> Self {
+        Self {
+            words: [0; JOURNAL_WORDS],
+            len: 0,
+        }
+    }
+
+    /// The entries, in their order.
+    pub fn iter(&self) -> Entries<'_> {
+        Entries(self.words().iter())
+    }
+
+    /// The entry at a place, 0 for the first.
+    pub fn get(&self, place: usize) -> Option<Entry> {
+        self.words().get(place).map(entry)
+    }
+
+    /// The number of entries.
+    pub const fn len(&self) -> usize {
+        self.len
+    }
+
+    /// Whether there is no entry.
+    pub const fn is_empty(&self) -> bool {
+        self.len == 0
+    }
+
+    /// The entries as words, number * 2^24 + value.
+    pub fn words(&self) -> &[u32] {
+        &self.words[..self.len]
+    }
+
+    /// Lends all words to a call, and keeps as many as it wrote.
+    pub(crate) fn written_by(&mut self, call: impl FnOnce(&mut [u32]) -> Word) -> Word {
+        let word = call(&mut self.words);
+        self.len = word.entries();
+        word
     }
 }
 
-impl Deref for Journal {
-    type Target = [Entry];
-
-    fn deref(&self) -> &[Entry] {
-        &self.0
+impl Default for Journal {
+    fn default() -> Self {
+        Self::new()
     }
+}
+
+impl PartialEq for Journal {
+    fn eq(&self, other: &Self) -> bool {
+        self.words() == other.words()
+    }
+}
+
+impl Eq for Journal {}
+
+impl Debug for Journal {
+    fn fmt(&self, f: &mut Formatter<'_>) -> fmt::Result {
+        f.debug_list().entries(self).finish()
+    }
+}
+
+impl<'a> IntoIterator for &'a Journal {
+    type Item = Entry;
+    type IntoIter = Entries<'a>;
+
+    fn into_iter(self) -> Entries<'a> {
+        self.iter()
+    }
+}
+
+/// The entries of a [`Journal`], in their order.
+#[derive(Debug, Clone)]
+pub struct Entries<'a>(slice::Iter<'a, u32>);
+
+impl Iterator for Entries<'_> {
+    type Item = Entry;
+
+    fn next(&mut self) -> Option<Entry> {
+        self.0.next().map(entry)
+    }
+
+    fn size_hint(&self) -> (usize, Option<usize>) {
+        self.0.size_hint()
+    }
+}
+
+impl ExactSizeIterator for Entries<'_> {}
+
+/// Of a word that the library wrote.
+fn entry(word: &u32) -> Entry {
+    Entry::from_word(*word).expect("an entry of librikkovan.a")
 }

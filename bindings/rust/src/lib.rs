@@ -1,6 +1,7 @@
 #![doc = include_str!("../README.md")]
+#![no_std]
 #![deny(unsafe_code)]
-#![warn(missing_docs)]
+#![warn(missing_docs, rust_2018_idioms)]
 
 #[allow(unsafe_code)]
 pub mod bytes;
@@ -23,14 +24,14 @@ mod time;
 mod word;
 
 pub use call::{Done, Outcome, Refused};
-pub use clocks::{CLOCKS, Clocks, LPSYS_CLOCKS, LpsysClocks};
+pub use clocks::{Clocks, LpsysClocks, CLOCKS, LPSYS_CLOCKS};
 pub use control::Booted;
 pub use head::{Head, ReadyFlag};
-pub use journal::{Entry, JOURNAL_WORDS, Journal, MOST_ANSWERS, WaitKind};
+pub use journal::{Entries, Entry, Journal, WaitKind, JOURNAL_WORDS, MOST_ANSWERS};
 pub use lpsys::LpsysSource;
 pub use plan::Plan;
 pub use refusal::{Refusal, UnknownRefusal};
 pub use register::Register;
-pub use task::{Task, load_check};
+pub use task::{load_check, Task};
 pub use time::{Hertz, Megahertz};
 pub use word::Word;

@@ -117,9 +117,9 @@ impl Default for Plan {
     }
 }
 
-/// The refusal that the library answers to a record.
+/// The refusal of a record.
 fn checked(record: &[u8]) -> Option<Refusal> {
-    Refusal::answered(bytes::plan_check(record) as u32)
+    Refusal::unless_0(bytes::plan_check(record) as u32)
 }
 
 /// The plan of a record that has the right length and version, `None` where a code is wrong.

@@ -1,8 +1,8 @@
 //! Why a call is refused.
 
 use crate::numbered::numbered;
-use std::error::Error;
-use std::fmt::{self, Display, Formatter};
+use core::error::Error;
+use core::fmt::{self, Display, Formatter};
 
 /// The cases with their numbers, and the words of `rikkovan_refusal_text`.
 macro_rules! refusals {
@@ -64,14 +64,19 @@ refusals! {
 }
 
 impl Refusal {
-    /// The refusal in an answer of the library, which has only these numbers and 0 for none.
-    pub(crate) fn answered(number: u32) -> Option<Self> {
-        (number != 0).then(|| Self::try_from(number).expect("an answer of librikkovan.a"))
+    /// The refusal of a number that the library returned, which has no others.
+    pub(crate) fn of_number(number: u32) -> Self {
+        Self::from_number(number).expect("a refusal of librikkovan.a")
+    }
+
+    /// The same where 0 is for none.
+    pub(crate) fn unless_0(number: u32) -> Option<Self> {
+        (number != 0).then(|| Self::of_number(number))
     }
 }
 
 impl Display for Refusal {
-    fn fmt(&self, f: &mut Formatter) -> fmt::Result {
+    fn fmt(&self, f: &mut Formatter<'_>) -> fmt::Result {
         f.pad(self.words())
     }
 }
@@ -91,7 +96,7 @@ impl TryFrom<u32> for Refusal {
 pub struct UnknownRefusal(pub u32);
 
 impl Display for UnknownRefusal {
-    fn fmt(&self, f: &mut Formatter) -> fmt::Result {
+    fn fmt(&self, f: &mut Formatter<'_>) -> fmt::Result {
         write!(f, "no refusal has the number {}", self.0)
     }
 }

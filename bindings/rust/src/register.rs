@@ -82,7 +82,7 @@ numbered! {
 
 impl Register {
     /// Where its bytes a, b, c are in the record of a head.
-    pub(crate) const fn place(self) -> std::ops::Range<usize> {
+    pub(crate) const fn place(self) -> core::ops::Range<usize> {
         let a = 3 * self.number() as usize;
         a..a + 3
     }

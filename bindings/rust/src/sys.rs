@@ -1,7 +1,7 @@
 //! What librikkovan.a exports, as `include/rikkovan.h` declares it. Lengths are of 64 bits on every
 //! chip.
 
-unsafe extern "C" {
+extern "C" {
     pub fn rikkovan_plan_check(plan: *const u8, plan_len: u64) -> u64;
 
     pub fn rikkovan_read_clocks(head: *const u8, head_len: u64, clocks: *mut u32) -> u64;

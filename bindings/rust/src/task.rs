@@ -53,7 +53,19 @@ impl Task {
 /// assert_eq!(load_check(&[video, video]), Err(Refusal::IdInUse));
 /// ```
 pub fn load_check(tasks: &[Task]) -> Result<u64, Refusal> {
-    let records: Vec<u8> = tasks.iter().flat_map(Task::to_record).collect();
-    let word = bytes::load_check(&records);
-    word.refusal().map_or(Ok(word.load()), Err)
+    // Of more tasks than a list may have, one is enough.
+    let tasks = &tasks[..tasks.len().min(Task::MOST + 1)];
+    let mut records = [[0; Task::BYTES]; Task::MOST + 1];
+    for (record, task) in records.iter_mut().zip(tasks) {
+        *record = task.to_record();
+    }
+    load_of(&records.as_flattened()[..Task::BYTES * tasks.len()])
+}
+
+/// The load of the bytes of a list.
+pub(crate) fn load_of(list: &[u8]) -> Result<u64, Refusal> {
+    match bytes::load_check(list) {
+        load if load >> 63 == 0 => Ok(load),
+        refused => Err(Refusal::of_number(refused as u32)),
+    }
 }

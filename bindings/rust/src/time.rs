@@ -1,6 +1,6 @@
 //! Frequencies.
 
-use std::fmt::{self, Display, Formatter};
+use core::fmt::{self, Display, Formatter};
 
 /// A frequency in Hz.
 #[derive(Debug, Clone, Copy, PartialEq, Eq, PartialOrd, Ord, Hash)]
@@ -18,7 +18,10 @@ impl Hertz {
     ///
     /// Panics above 4,294,967 kHz, which is no `Hertz`.
     pub const fn khz(kilohertz: u32) -> Self {
-        Self(kilohertz.checked_mul(1_000).expect("at most 4,294,967 kHz"))
+        match kilohertz.checked_mul(1_000) {
+            Some(hertz) => Self(hertz),
+            None => panic!("at most 4,294,967 kHz"),
+        }
     }
 
     /// From MHz.
@@ -27,7 +30,10 @@ impl Hertz {
     ///
     /// Panics above 4,294 MHz, which is no `Hertz`.
     pub const fn mhz(megahertz: u32) -> Self {
-        Self(megahertz.checked_mul(1_000_000).expect("at most 4,294 MHz"))
+        match megahertz.checked_mul(1_000_000) {
+            Some(hertz) => Self(hertz),
+            None => panic!("at most 4,294 MHz"),
+        }
     }
 
     /// In whole MHz, rounded down.
@@ -37,7 +43,7 @@ impl Hertz {
 }
 
 impl Display for Hertz {
-    fn fmt(&self, f: &mut Formatter) -> fmt::Result {
+    fn fmt(&self, f: &mut Formatter<'_>) -> fmt::Result {
         write!(f, "{} Hz", self.0)
     }
 }
@@ -45,19 +51,19 @@ impl Display for Hertz {
 /// A frequency in whole MHz. It is never passed for one in Hz:
 ///
 /// ```
-/// # use rikkovan::{Head, Megahertz};
-/// let refused = Head::new().config_lpsys_hclk_mhz(Megahertz(49));
+/// # use rikkovan::{Head, Journal, Megahertz};
+/// let refused = Head::new().config_lpsys_hclk_mhz(Megahertz(49), &mut Journal::new());
 /// ```
 ///
 /// ```compile_fail
-/// # use rikkovan::{Head, Hertz};
-/// let refused = Head::new().config_lpsys_hclk_mhz(Hertz(49));
+/// # use rikkovan::{Head, Hertz, Journal};
+/// let refused = Head::new().config_lpsys_hclk_mhz(Hertz(49), &mut Journal::new());
 /// ```
 #[derive(Debug, Clone, Copy, PartialEq, Eq, PartialOrd, Ord, Hash)]
 pub struct Megahertz(pub u32);
 
 impl Display for Megahertz {
-    fn fmt(&self, f: &mut Formatter) -> fmt::Result {
+    fn fmt(&self, f: &mut Formatter<'_>) -> fmt::Result {
         write!(f, "{} MHz", self.0)
     }
 }

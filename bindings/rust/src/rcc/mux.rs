@@ -1,7 +1,7 @@
 //! The selects beside the core select.
 
-use super::ConfigBuilder;
 use super::codes::{Lpsel, Mpisel, Perisel, Rtcsel, Ticksel, Usbsel, Wdtsel};
+use super::ConfigBuilder;
 
 /// The clock multiplexers of a [`ConfigBuilder`].
 #[derive(Debug, Clone, Copy, PartialEq, Eq, Hash)]

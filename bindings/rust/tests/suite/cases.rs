@@ -2,13 +2,15 @@
 
 use crate::{changed, head, plan, stores, waits};
 use rikkovan::rcc::{Dll, DllStage, PclkPrescaler};
-use rikkovan::{Entry, Head, Hertz, Megahertz, Plan, Refusal, Register, Task, WaitKind};
+use rikkovan::{
+    Entry, Head, Hertz, Journal, Megahertz, Outcome, Plan, Refusal, Register, Task, WaitKind,
+};
 
 #[test]
 fn the_default_plan() {
     let mut head = head("d48");
-    let done = head.init(&Plan::DEFAULT, &[1, 0, 0, 1]).expect("done");
-    let clocks = done.value.clocks;
+    let outcome = head.init(&Plan::DEFAULT, &mut Journal::new(), &[1, 0, 0, 1]);
+    let clocks = outcome.expect("done").value.clocks;
     assert_eq!(clocks.hclk, Some(Hertz::mhz(240)));
     assert_eq!(clocks.pclk, Some(Hertz::mhz(120)));
     assert_eq!(clocks.pclk2, Some(Hertz::khz(3_750)));
@@ -44,7 +46,8 @@ fn plans_with_one_change() {
 fn modes_by_the_voltages_of_a_change() {
     let volts = |name, register| {
         let mut head = head("s240");
-        head.change(&plan(name), &[1]).expect(name);
+        head.change(&plan(name), &mut Journal::new(), &[1])
+            .expect(name);
         head.register(register)
     };
     assert_eq!(volts("low-power-24", Register::SetVoutM), 9);
@@ -57,50 +60,54 @@ fn modes_by_the_voltages_of_a_change() {
 fn lpsys_dividers() {
     for (request, divider) in [(48, 0), (25, 1), (24, 2), (7, 6), (1, 48)] {
         let mut head = head("d48");
-        let outcome = head.config_lpsys_hclk_mhz(Megahertz(request));
+        let outcome = head.config_lpsys_hclk_mhz(Megahertz(request), &mut Journal::new());
         assert!(outcome.is_ok());
         assert_eq!(head.register(Register::LpsysCfgr), divider << 16);
     }
 }
 
 /// Calibrates with the same counts in every measurement.
-fn calibrate(hxt_cnt: u16, hrc_cnt: u16) -> (rikkovan::Outcome, Head) {
-    let mut head = head("d48");
+fn calibrate(hxt_cnt: u16, hrc_cnt: u16) -> (Outcome, Head, Journal) {
+    let (mut head, mut journal) = (head("d48"), Journal::new());
     let answers: Vec<u16> = [1, hxt_cnt, hrc_cnt].repeat(11);
-    (head.calibrate_hrc48(&answers), head)
+    let outcome = head.calibrate_hrc48(&mut journal, &answers);
+    (outcome, head, journal)
 }
 
 #[test]
 fn a_difference_of_63_ends_the_search() {
-    let (outcome, head) = calibrate(63, 0);
-    let done = outcome.expect("done");
-    assert_eq!(stores(&done.journal, Register::HrcTrim), [512]);
+    let (outcome, head, journal) = calibrate(63, 0);
+    assert_eq!(stores(&journal, Register::HrcTrim), [512]);
     assert_eq!(head.register(Register::HrcTrim), 512);
-    assert_eq!(done.taken, 3);
+    assert_eq!(outcome.expect("done").taken, 3);
 }
 
 #[test]
 fn a_difference_of_64_goes_on_to_the_end() {
     let trims = [512, 768, 896, 960, 992, 1008, 1016, 1020, 1022, 1023, 1023];
-    let done = calibrate(64, 0).0.expect("done");
-    assert_eq!(stores(&done.journal, Register::HrcTrim), trims);
+    let (outcome, _, journal) = calibrate(64, 0);
+    assert!(outcome.is_ok());
+    assert_eq!(stores(&journal, Register::HrcTrim), trims);
 }
 
 #[test]
 fn a_last_difference_of_160_is_done_and_161_refused() {
     assert!(calibrate(160, 0).0.is_ok());
-    let refused = calibrate(0, 161).0.unwrap_err();
-    assert_eq!(refused.refusal, Refusal::Difference);
-    assert_eq!(refused.journal.len(), 57);
-    assert_eq!(waits(&refused.journal, WaitKind::Calibration), [3; 11]);
+    let (outcome, _, journal) = calibrate(0, 161);
+    assert_eq!(outcome.unwrap_err().refusal, Refusal::Difference);
+    assert_eq!(journal.len(), 57);
+    assert_eq!(waits(&journal, WaitKind::Calibration), [3; 11]);
 }
 
 #[test]
 fn a_delay_of_250_us_at_240_mhz() {
-    let mut head = head("s240");
-    head.config_lpsys_hclk_mhz(Megahertz(24)).expect("down");
-    let done = head.config_lpsys_hclk_mhz(Megahertz(48)).expect("up");
-    assert!(done.journal.contains(&Entry::Delay { cycles: 60_000 }));
+    let (mut head, mut journal) = (head("s240"), Journal::new());
+    for mhz in [24, 48] {
+        head.config_lpsys_hclk_mhz(Megahertz(mhz), &mut journal)
+            .expect("done");
+    }
+    let delay = Entry::Delay { cycles: 60_000 };
+    assert!(journal.iter().any(|entry| entry == delay));
 }
 
 #[test]

@@ -3,8 +3,8 @@
 use crate::header::{between, defined, refusals};
 use rikkovan::rcc::{Mpisel, Perisel, Sysclk, Usbsel, Wdtsel};
 use rikkovan::{
-    CLOCKS, Clocks, Entry, Head, Hertz, JOURNAL_WORDS, LPSYS_CLOCKS, LpsysClocks, LpsysSource,
-    MOST_ANSWERS, Plan, Refusal, Register, Task, WaitKind,
+    Clocks, Entry, Head, Hertz, LpsysClocks, LpsysSource, Plan, Refusal, Register, Task, WaitKind,
+    CLOCKS, JOURNAL_WORDS, LPSYS_CLOCKS, MOST_ANSWERS,
 };
 use std::collections::BTreeMap;
 use std::fmt::Debug;

@@ -1,18 +1,16 @@
 //! Heads and their bytes.
 
 use crate::{example, examples, head};
-use rikkovan::{Head, LPSYS_CLOCKS, Refusal, Register, Task, bytes, load_check};
+use rikkovan::{bytes, load_check, Head, Refusal, Register, Task, LPSYS_CLOCKS};
 
 #[test]
 fn a_new_head_is_accepted() {
     let new = Head::new();
     assert_eq!(Head::from_bytes(new.as_bytes()), Ok(new.clone()));
     assert_eq!(new.tasks().len(), 0);
-    assert!(
-        Register::ALL
-            .iter()
-            .all(|&register| new.register(register) == 0)
-    );
+    assert!(Register::ALL
+        .iter()
+        .all(|&register| new.register(register) == 0));
 }
 
 #[test]
@@ -90,13 +88,17 @@ fn a_register_takes_what_it_may_hold() {
 fn every_list_of_tasks() {
     for file in examples("tasks") {
         let list = example(&file);
-        let (records, rest) = list.as_chunks();
-        let tasks: Vec<Task> = records.iter().copied().map(Task::from_record).collect();
-        let word = bytes::load_check(&list);
-        let expected = word.refusal().map_or(Ok(word.load()), Err);
-        match rest {
-            [] => assert_eq!(load_check(&tasks), expected, "{file}"),
-            _ => assert_eq!(expected, Err(Refusal::Length), "{file}"),
+        let records = list.chunks_exact(Task::BYTES);
+        let is_whole = records.remainder().is_empty();
+        let tasks = records.map(|record| Task::from_record(record.try_into().expect("nine bytes")));
+        let tasks: Vec<Task> = tasks.collect();
+        let expected = match bytes::load_check(&list) {
+            load if load >> 63 == 0 => Ok(load),
+            refused => Err(Refusal::from_number(refused as u32).expect("a refusal")),
+        };
+        match is_whole {
+            true => assert_eq!(load_check(&tasks), expected, "{file}"),
+            false => assert_eq!(expected, Err(Refusal::Length), "{file}"),
         }
     }
 }
@@ -110,8 +112,10 @@ fn the_largest_load() {
     };
     let tasks: Vec<Task> = (1..=16).map(task).collect();
     assert_eq!(load_check(&tasks), Ok(68_719_476_720_000_000));
-    let tasks: Vec<Task> = (1..=17).map(task).collect();
-    assert_eq!(load_check(&tasks), Err(Refusal::Tasks));
+    for most in [17, 18, 255] {
+        let tasks: Vec<Task> = (1..=most).map(task).collect();
+        assert_eq!(load_check(&tasks), Err(Refusal::Tasks));
+    }
 }
 
 #[test]
@@ -121,4 +125,5 @@ fn what_is_shared_between_threads() {
     is_shared::<rikkovan::Plan>();
     is_shared::<rikkovan::Done<rikkovan::Booted>>();
     is_shared::<rikkovan::Refused>();
+    is_shared::<rikkovan::Journal>();
 }

@@ -44,7 +44,7 @@ fn changed(change: fn(&mut Plan)) -> Plan {
 
 /// What is stored into a register, in the order of the stores.
 fn stores(journal: &Journal, into: Register) -> Vec<u32> {
-    let value = |entry: &Entry| match *entry {
+    let value = |entry| match entry {
         Entry::Store { register, value } if register == into => Some(value),
         _ => None,
     };
@@ -53,7 +53,7 @@ fn stores(journal: &Journal, into: Register) -> Vec<u32> {
 
 /// How many answers the waits of a kind took, in their order.
 fn waits(journal: &Journal, of: WaitKind) -> Vec<u16> {
-    let taken = |entry: &Entry| match *entry {
+    let taken = |entry| match entry {
         Entry::Wait { kind, answers } if kind == of => Some(answers),
         _ => None,
     };

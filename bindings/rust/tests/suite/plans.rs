@@ -5,7 +5,7 @@ use rikkovan::rcc::{
     ClockMux, ConfigBuilder, Dll, DllStage, HclkPrescaler, Mpisel, PclkPrescaler, Perisel, Sysclk,
     Usbsel, Wdtsel,
 };
-use rikkovan::{Plan, Refusal, bytes};
+use rikkovan::{bytes, Plan, Refusal};
 
 /// A record, the plan of it and its verdict agree with what the library answers.
 fn agrees(record: &[u8]) {
