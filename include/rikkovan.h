@@ -12,17 +12,18 @@
  * else that is lent to the call. Nothing else is asked of the caller: every content and every
  * length gets one result, and every call returns.
  *
- * A number of elements is a uint64_t and not a size_t: the library has 64-bit lengths on every
- * chip. Where uint64_t has 32 bits, a declaration with it links, and passes half of the length.
+ * A number of elements is a uint64_t and not a size_t: the library has lengths of 64 bits on every
+ * chip. Where size_t has 32, a call declared with it links, and takes its arguments for others.
  *
- * The parts of this header are refusals, plans, heads, what a call on a head returns, readings,
- * journals, LPSYS, calibration and init, tasks, the guarded change, and the stack that calls need.
- * The small functions make and read records, journal entries and what calls return, so that no
- * caller needs the place of a byte. They test nothing: what is put in must be in its range. The
- * library has the calls alone; everything else here is compiled into the caller.
+ * The parts of this header are refusals; plans; heads, with their tasks and registers; what a call
+ * on a head returns; readings; journals; answers; LPSYS; calibration, init and reconfigure; tasks;
+ * the guarded change; the stack that calls need. The library has the calls alone. The small
+ * functions are compiled into the caller: they make and read records, journal entries and what
+ * calls return, so that no caller needs the place of a byte. They test nothing: what is put in must
+ * be in its range.
  *
- * Calls return. The word answer is for what the chip answers when it is polled, and for the type
- * rikkovan_answer, in which a call on a head says how it went.
+ * An answer is what the chip says when it is polled. A call returns: a number, or a rikkovan_answer
+ * that says how it went.
  */
 #ifndef RIKKOVAN_H
 #define RIKKOVAN_H
@@ -57,7 +58,7 @@ extern "C" {
  * Refusals
  * ========
  *
- * The number of each refusal, its name, it in words, and above it the calls that give it. Numbers
+ * The number of each refusal, its name and its words, and above it the calls that give it. Numbers
  * 1 to 18 refuse what a call was given, and 31 to 43 the state of the head. A call makes its tests
  * in the order that its comment says, and the first that fails is its refusal.
  */
