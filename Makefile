@@ -95,7 +95,7 @@ test-c: build/daemon $(PROGRAMS)
 
 test-rust: $(LIBRARY)
 	$(CARGO) test -j1 $(WITH_CRATE)
-	$(CARGO) run $(WITH_CRATE) --example firmware >/dev/null
+	$(CARGO) run $(WITH_CRATE) --example firmware | diff tests/c/firmware.expected -
 	@if [ -d "$$(rustc --print target-libdir --target $(CHIP))" ]; then $(CARGO) check $(WITH_CRATE) --target $(CHIP); \
 		else echo 'test-rust: skipped: a check for $(CHIP) (the target is not installed)'; fi
 

@@ -47,6 +47,9 @@ extern "C" {
 #define RIKKOVAN_RESTRICT restrict
 #endif
 
+/* An array, not a pointer to one, as the two arguments that lend all of it. */
+#define RIKKOVAN_LEND(array) (array), sizeof(array) / sizeof((array)[0])
+
 /* Frequencies in Hz. */
 #define RIKKOVAN_MHZ 1000000
 #define RIKKOVAN_OSCILLATOR_HZ (48 * RIKKOVAN_MHZ) /* HRC48 and HXT48 */

@@ -9,9 +9,9 @@ int main(void)
     uint32_t clocks[RIKKOVAN_CLOCKS], lpsys[RIKKOVAN_LPSYS_CLOCKS];
     rikkovan_answer answer;
 
-    if (rikkovan_plan_refusal(rikkovan_plan_check(plan, sizeof plan)) != RIKKOVAN_NOT_REFUSED)
+    if (rikkovan_plan_refusal(rikkovan_plan_check(RIKKOVAN_LEND(plan))) != RIKKOVAN_NOT_REFUSED)
         return 1;
-    if (!rikkovan_done(rikkovan_read_clocks(head, sizeof head, clocks)))
+    if (!rikkovan_done(rikkovan_read_clocks(RIKKOVAN_LEND(head), clocks)))
         return 1;
     if (clocks[RIKKOVAN_CLOCK_PERI] != RIKKOVAN_OSCILLATOR_HZ || clocks[RIKKOVAN_CLOCK_HCLK] != 0)
         return 1;

@@ -62,8 +62,8 @@ every_call_on_a_head_gives_an_answer() {
 # On the chip a call returns its word in registers, and has lengths of 64 bits: what clang makes of
 # a call says so.
 calls_fit_the_chip() {
-    clang --target=thumbv8m.main-none-eabi -ffreestanding -std=c99 -Iinclude -O1 -S -emit-llvm \
-        -o "$work/chip.ll" tests/c/header.c &&
+    clang --target=thumbv8m.main-none-eabi -ffreestanding -std=c99 "${strict[@]}" -Iinclude -S \
+        -emit-llvm -o "$work/chip.ll" tests/c/header.c &&
         grep -E '^declare .*i64 @rikkovan_read_clocks\((i8\*|ptr)[a-z ]*, i64[a-z ]*, (i32\*|ptr)[a-z ]*\)' \
             "$work/chip.ll"
 }
@@ -87,6 +87,17 @@ stack_is_within_the_header() {
         [ "${stated:-0}" -ge "$bytes" ] || echo "$call: $bytes bytes, ${stated:-none} in the header"
     done < <(tools/stack.sh "$library" || echo 'all 1') >"$work/deeper"
     diff /dev/null "$work/deeper"
+}
+
+# As C99, then as C++; it names no place of a byte.
+firmware() {
+    ! grep -n '_AT_' examples/*.c || return
+    builds_and_runs "$work/firmware" \
+        "$cc" -std=c99 "${strict[@]}" -Iinclude examples/firmware.c "$library" >"$work/played" &&
+        diff tests/c/firmware.expected "$work/played" &&
+        builds_and_runs "$work/firmware-cxx" "$cxx" -std=c++11 "${strict[@]}" -Iinclude \
+            -x c++ examples/firmware.c -x none "$library" >"$work/played" &&
+        diff tests/c/firmware.expected "$work/played"
 }
 
 library_has_every_call() {
@@ -233,6 +244,7 @@ check 'daemon on a missing file' daemon_on_unreadable "$work/missing"
 check 'daemon on a folder' daemon_on_unreadable "$work"
 check 'daemon without a file ends with 2' daemon_ends_with 2
 check 'daemon with --tasks alone ends with 2' daemon_ends_with 2 examples/plans/default.plan --tasks
+check 'the example for firmware' firmware
 check 'make install' installs
 check 'installed programs' installed_programs
 check 'make install with DESTDIR' installs_below_destdir

@@ -1,8 +1,8 @@
-//! A guarded change as firmware makes it: the chip's registers become a head, the change is asked
-//! for, and what it did to the head is played to the chip. Nothing is allocated.
+//! A guarded change as firmware makes it: the chip's registers become a head, a task is booked, the
+//! change is asked for, and what it did to the head is played to the chip. Nothing is allocated.
 
 use rikkovan::{
-    Entry, Head, Hertz, Journal, Outcome, Plan, ReadyFlag, Refusal, Register, WaitKind,
+    Entry, Head, Hertz, Journal, Outcome, Plan, ReadyFlag, Refusal, Register, Task, WaitKind,
 };
 
 /// What the firmware has for its chip.
@@ -69,7 +69,7 @@ impl Chip for Board {
 
     fn store(&mut self, register: Register, value: u32) {
         self.registers[usize::from(register.number())] = value;
-        println!("store {register:?} {value:06X}");
+        println!("store {} {value:06X}", register.number());
     }
 
     fn is_ready(&self, _: ReadyFlag) -> bool {
@@ -81,7 +81,7 @@ impl Chip for Board {
     }
 
     fn wait(&mut self, kind: WaitKind) {
-        println!("wait for {kind:?}");
+        println!("wait {}", kind.number());
     }
 }
 
@@ -90,10 +90,17 @@ fn main() -> Result<(), Box<dyn std::error::Error>> {
     let mut head = head_of(&board)?;
     let mut journal = Journal::new();
 
+    head.book(Task {
+        id: 1,
+        cycles: 40_000,
+        period_us: 1_000,
+    })?;
     change(&mut board, &mut head, &Plan::DEFAULT, &mut journal)?;
 
-    // The chip is what the head is, and runs at 240 MHz.
-    assert_eq!(head, head_of(&board)?);
+    // The chip has the registers of the head, and runs at 240 MHz.
+    for &register in Register::ALL {
+        assert_eq!(board.read(register), head.register(register));
+    }
     assert_eq!(head.clocks().hclk, Some(Hertz::mhz(240)));
     Ok(())
 }
