@@ -72,7 +72,7 @@ def definitions_of(file):
         notes = " ".join(line[2:].strip() for line in block.split("\n") if line.startswith("--")) or notes
         begins = re.search(r"^(?:(?:unfoldable|abbrev|pub|record|data) )+(?!use |mod )(\S+)", block, re.M)
         if begins:
-            yield Item("definition", file, (), begins[1], block, notes.replace(" Assumes nothing.", ""))
+            yield Item("definition", file, (), begins[1], block, notes)
 
 
 class Sources:

@@ -1,4 +1,4 @@
--- What a booking leaves: a load within the clock, the former tasks with the new one last. Assumes nothing.
+-- What a booking leaves: a load within the clock, the former tasks with the new one last.
 use Prim.Native.Nat.{ℕ, suc, _≤_, _<_}
 use mathlib.Core.Path.{_≡_, refl, sym, ap, _∙_}
 use mathlib.Core.Bool.{true, false}

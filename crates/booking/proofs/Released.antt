@@ -1,4 +1,4 @@
--- What a release leaves: the former tasks without the one of that id. Assumes nothing.
+-- What a release leaves: the former tasks without the one of that id.
 use Prim.Native.Nat.{ℕ}
 use mathlib.Core.Path.{_≡_, ap, _∙_}
 use mathlib.Core.Bool.{true, false}

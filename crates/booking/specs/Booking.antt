@@ -1,4 +1,4 @@
--- A booking. Assumes nothing.
+-- A booking.
 use Prim.Native.Nat.{ℕ}
 use mathlib.Core.List.{List}
 use Rattle.task.specs.declared.Task.{Task}

@@ -1,4 +1,4 @@
--- A release. Assumes nothing.
+-- A release.
 use Prim.Native.Nat.{ℕ}
 use mathlib.Core.Bool.{not}
 use mathlib.Core.List.{List, [], _∷_}

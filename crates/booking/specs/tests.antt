@@ -1,4 +1,4 @@
--- The tests of a booking on a task and a head. Assumes nothing.
+-- The tests of a booking on a task and a head.
 use Prim.Native.Nat.{ℕ}
 use mathlib.Core.Bool.{not}
 use mathlib.Core.List.{List, [], _∷_, _++_}

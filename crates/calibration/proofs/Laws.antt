@@ -1,4 +1,4 @@
--- Calibration only appends. Assumes nothing.
+-- Calibration only appends.
 use Prim.Native.Nat.{ℕ, zero, suc, _/_}
 use mathlib.Core.List.{List}
 use lib.Dec.{ltb}

@@ -1,4 +1,4 @@
--- The trims that calibration stores are 1 to 1023, and none is stored after the measurement that ends the search. Assumes nothing.
+-- The trims that calibration stores are 1 to 1023, and none is stored after the measurement that ends the search.
 use Prim.Native.Nat.{ℕ, zero, suc, _+_, _*_, _/_, _%_, _<_, _≤_}
 use mathlib.Core.Path.{_≡_, refl}
 use mathlib.Core.Bool.{Bool, true, false, cond}

@@ -1,4 +1,4 @@
--- `calibrate_hrc48` of rcc/clock_config.rs. Assumes nothing.
+-- `calibrate_hrc48` of rcc/clock_config.rs.
 use mathlib.Core.Bool.{cond}
 use mathlib.Core.List.{List}
 use Prim.Native.Nat.{ℕ}

@@ -1,4 +1,4 @@
--- A measurement of `calibrate_hrc48` of rcc/clock_config.rs, its counts, and the verdict on the last. Assumes nothing.
+-- A measurement of `calibrate_hrc48` of rcc/clock_config.rs, its counts, and the verdict on the last.
 use Prim.Native.Nat.{ℕ, _-_}
 use mathlib.Core.Bool.{cond}
 use mathlib.Core.List.{List}

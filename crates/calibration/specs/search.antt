@@ -1,4 +1,4 @@
--- The search for the trim in `calibrate_hrc48` of rcc/clock_config.rs. Assumes nothing.
+-- The search for the trim in `calibrate_hrc48` of rcc/clock_config.rs.
 use Prim.Native.Nat.{ℕ, zero, suc, _+_, _-_, _/_}
 use mathlib.Core.Bool.{cond}
 use mathlib.Core.List.{List}

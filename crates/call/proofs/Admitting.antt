@@ -1,4 +1,4 @@
--- What the first tests of a call leave. Assumes nothing.
+-- What the first tests of a call leave.
 use Prim.Native.Nat.{ℕ, suc, _≤_}
 use mathlib.Core.Path.{_≡_, refl, sym, _∙_}
 use mathlib.Core.List.{List}

@@ -1,4 +1,4 @@
--- A call on the head alone, from the head that the code changed to what the call leaves. Assumes nothing.
+-- A call on the head alone, from the head that the code changed to what the call leaves.
 use Prim.Native.Nat.{ℕ}
 use mathlib.Core.Path.{_≡_, refl, sym, ap, _∙_}
 use mathlib.Core.Bool.{Bool, true, false}

@@ -1,4 +1,4 @@
--- From a run of the code to what a call leaves. Assumes nothing.
+-- From a run of the code to what a call leaves.
 use Prim.Native.Nat.{ℕ, suc}
 use mathlib.Core.Path.{_≡_, refl, sym, ap, _∙_}
 use mathlib.Core.Bool.{cond}

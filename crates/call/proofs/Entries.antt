@@ -1,4 +1,4 @@
--- A call's entries lie in the journal that it leaves. Assumes nothing.
+-- A call's entries lie in the journal that it leaves.
 use Prim.Native.Nat.{ℕ, _≤_}
 use mathlib.Core.Bool.{Bool, true, false, cond}
 use mathlib.Core.List.{List}

@@ -1,4 +1,4 @@
--- A call on a head's bytes: its tests, its run, and what it leaves. Assumes nothing.
+-- A call on a head's bytes: its tests, its run, and what it leaves.
 use Prim.Native.Nat.{ℕ}
 use mathlib.Core.Path.{_≡_}
 use mathlib.Core.Bool.{cond}

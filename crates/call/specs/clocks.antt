@@ -1,4 +1,4 @@
--- The clocks that a call leaves beside a head. Assumes nothing.
+-- The clocks that a call leaves beside a head.
 use Prim.Native.Nat.{ℕ}
 use mathlib.Core.List.{List, _++_}
 use lib.ListN.{take, drop}

@@ -1,4 +1,4 @@
--- What a call that does one store leaves, on the bytes lent to it. Assumes nothing.
+-- What a call that does one store leaves, on the bytes lent to it.
 use Prim.Native.Nat.{ℕ}
 use mathlib.Core.List.{List, [], _∷_}
 use Rattle.journal.specs.Run.{store}

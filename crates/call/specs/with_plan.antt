@@ -1,4 +1,4 @@
--- A call that is lent a plan, on the bytes lent to it: `pb` a plan's, `b` a head's, `j` a journal, `a` answers. Assumes nothing.
+-- A call that is lent a plan, on the bytes lent to it: `pb` a plan's, `b` a head's, `j` a journal, `a` answers.
 use Prim.Native.Nat.{ℕ}
 use mathlib.Core.List.{List, [], _∷_, _++_}
 use Rattle.record.specs.Refusals.{firstOf}

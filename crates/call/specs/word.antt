@@ -1,4 +1,4 @@
--- The 64-bit word that a call on a head answers to C, as include/rikkovan.h documents it. Assumes nothing.
+-- The 64-bit word that a call on a head answers to C, as include/rikkovan.h documents it.
 use Prim.Native.Nat.{ℕ, _+_, _*_, _/_, _%_}
 use mathlib.Core.Path.{_≡_}
 use mathlib.Core.Bool.{cond}

@@ -1,4 +1,4 @@
--- Heads that miss one clause of fit each, beside the same head with that clause met, computed from the definitions. Assumes nothing.
+-- Heads that miss one clause of fit each, beside the same head with that clause met, computed from the definitions.
 use Prim.Native.Nat.{ℕ}
 use mathlib.Core.Path.{_≡_, refl}
 use mathlib.Core.Bool.{true, false}

@@ -1,4 +1,4 @@
--- Rail limits of document 01 on both sides of each row, computed on heads. Assumes nothing.
+-- Rail limits of document 01 on both sides of each row, computed on heads.
 use Prim.Native.Nat.{ℕ}
 use mathlib.Core.Path.{_≡_, refl}
 use lib.ListN.{set, replicate}

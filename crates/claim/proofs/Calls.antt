@@ -1,4 +1,4 @@
--- Each of the four calls is good on a fit head. Assumes nothing.
+-- Each of the four calls is good on a fit head.
 use Prim.Native.Nat.{ℕ, zero, suc, _≤_}
 use mathlib.Core.Path.{_≡_, refl, ap, sym, _∙_, subst}
 use mathlib.Core.Bool.{Bool, true, false, false≢true, cond, not, _&&_, _||_}

@@ -1,4 +1,4 @@
--- Demand 3, proved. Assumes nothing.
+-- Demand 3, proved.
 use Prim.Native.Nat.{ℕ}
 use mathlib.Core.Path.{_≡_, refl}
 use mathlib.Core.List.{List, [], _∷_}

@@ -1,5 +1,5 @@
 -- The claim is not empty: a fit head, a list in which every kind of call is answered done, and one with each refusal that a list from a fit
--- head can meet. Computed from the definitions. Assumes nothing.
+-- head can meet. Computed from the definitions.
 use Prim.Native.Nat.{ℕ, zero, suc}
 use mathlib.Core.Path.{_≡_, refl}
 use mathlib.Core.Bool.{true, false}

@@ -1,4 +1,4 @@
--- A fit head is safe at that moment. Assumes nothing.
+-- A fit head is safe at that moment.
 use Prim.Native.Nat.{ℕ, _≤_, _<_}
 use mathlib.Core.Path.{_≡_, refl, ap, sym, _∙_}
 use mathlib.Core.Bool.{Bool, true, false, cond}

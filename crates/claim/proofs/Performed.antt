@@ -1,5 +1,4 @@
 -- What each call leaves is good, and a fit head again: calls that are refused by their tests, calls without entries, and calls that run.
--- Assumes nothing.
 use Prim.Native.Nat.{ℕ, _≤_, _<_}
 use mathlib.Core.Path.{_≡_, refl, ap, sym, _∙_, subst}
 use mathlib.Core.Bool.{Bool, true, false, cond}

@@ -1,5 +1,5 @@
 -- Demand 3: one claim about every list of guarded changes, bookings, releases and LPSYS requests. It is stated on `changeCall`, `book`,
--- `release` and `lpsysRequest`, the definitions that the contracts of these calls give. Assumes nothing.
+-- `release` and `lpsysRequest`, the definitions that the contracts of these calls give.
 use Prim.Native.Nat.{ℕ, _≤_}
 use mathlib.Core.Path.{_≡_}
 use mathlib.Core.Bool.{true, cond}

@@ -1,4 +1,4 @@
--- What holds at every moment of a guarded change. Assumes nothing.
+-- What holds at every moment of a guarded change.
 use Prim.Native.Nat.{ℕ}
 use mathlib.Core.Path.{_≡_}
 use mathlib.Core.Bool.{Bool, true, false, cond}

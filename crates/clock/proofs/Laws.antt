@@ -1,4 +1,4 @@
--- Laws of DLL and divider arithmetic. Assumes nothing.
+-- Laws of DLL and divider arithmetic.
 use Prim.Native.Nat.{ℕ, zero, _+_, _*_, _/_, _^_, _≤_, _<_}
 use mathlib.Core.Path.{_≡_, refl}
 use mathlib.Core.Bool.{Bool, true, false, cond}

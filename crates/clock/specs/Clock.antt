@@ -1,4 +1,4 @@
--- DLL and divider arithmetic. Assumes nothing.
+-- DLL and divider arithmetic.
 use Prim.Native.Nat.{ℕ, _+_, _*_, _/_, _^_}
 use mathlib.Core.Bool.{Bool, cond}
 use lib.Dec.{eqb}

@@ -1,4 +1,4 @@
--- What `calibrate_hrc48` of rcc/clock_config.rs leaves, on the bytes lent to it: `b` a head's, `j` a journal, `a` answers. Assumes nothing.
+-- What `calibrate_hrc48` of rcc/clock_config.rs leaves, on the bytes lent to it: `b` a head's, `j` a journal, `a` answers.
 use Prim.Native.Nat.{ℕ}
 use mathlib.Core.Bool.{not}
 use mathlib.Core.List.{List, [], _∷_, _++_}

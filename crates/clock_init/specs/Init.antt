@@ -1,4 +1,4 @@
--- `init` of rcc/clock_config.rs, as a run. Assumes nothing.
+-- `init` of rcc/clock_config.rs, as a run.
 use Prim.Native.Nat.{ℕ}
 use mathlib.Core.Bool.{cond}
 use mathlib.Core.List.{List}

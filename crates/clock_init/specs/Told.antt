@@ -1,4 +1,4 @@
--- What the code's warning is. Assumes nothing.
+-- What the code's warning is.
 use Prim.Native.Nat.{ℕ}
 use mathlib.Core.Path.{_≡_}
 use mathlib.Core.List.{List}

@@ -1,4 +1,4 @@
--- `init` of rcc/clock_config.rs from the core clock on, as a run. Assumes nothing.
+-- `init` of rcc/clock_config.rs from the core clock on, as a run.
 use Prim.Native.Nat.{ℕ}
 use mathlib.Core.List.{List}
 use Rattle.plan.specs.declared.Plan.{Plan}

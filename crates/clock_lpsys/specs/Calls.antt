@@ -1,5 +1,5 @@
 -- What waking the LPSYS core, cancelling that and HXT48 leave, on the bytes lent to each; the other LPSYS calls are in `lpsys_request::frequency`,
--- `clock_lpsys::dividers` and `clock_lpsys::selects`. Assumes nothing.
+-- `clock_lpsys::dividers` and `clock_lpsys::selects`.
 use Prim.Native.Nat.{ℕ}
 use mathlib.Core.List.{List, []}
 use Rattle.call.specs.Call.{Result, journalCall, answersCall}

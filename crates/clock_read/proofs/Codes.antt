@@ -1,4 +1,4 @@
--- What the codes of a head's registers say of its readings. Assumes nothing.
+-- What the codes of a head's registers say of its readings.
 use Prim.Native.Nat.{ℕ, _≤_, _<_}
 use mathlib.Core.Path.{_≡_}
 use native.Mathlib.Omega.{arith}

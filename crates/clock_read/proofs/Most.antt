@@ -1,4 +1,4 @@
--- HCLK is at most 384 MHz, whatever a head's registers select. Assumes nothing.
+-- HCLK is at most 384 MHz, whatever a head's registers select.
 use Prim.Native.Nat.{ℕ, _≤_}
 use mathlib.Core.Path.{_≡_, refl}
 use mathlib.Core.Bool.{Bool, true, false, cond}

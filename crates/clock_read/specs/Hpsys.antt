@@ -1,4 +1,4 @@
--- Frequencies of HPSYS read from a head, up to HCLK: rcc/clock_read.rs. Assumes nothing.
+-- Frequencies of HPSYS read from a head, up to HCLK: rcc/clock_read.rs.
 use Prim.Native.Nat.{ℕ}
 use mathlib.Core.Bool.{Bool, cond}
 use lib.Dec.{eqb}

@@ -1,4 +1,4 @@
--- Frequencies of the buses, and of the MAC and the peripherals of LPSYS: rcc/clock_read.rs and rcc/clock_lpsys.rs. Assumes nothing.
+-- Frequencies of the buses, and of the MAC and the peripherals of LPSYS: rcc/clock_read.rs and rcc/clock_lpsys.rs.
 use Prim.Native.Nat.{ℕ}
 use Rattle.time.specs.declared.Reading.{Reading}
 use Rattle.time.specs.declared.Reading.the-variants.{At, Unreadable}

@@ -1,4 +1,4 @@
--- The frequencies of USB, the watchdog and flash, read from a head: rcc/clock_read.rs. Assumes nothing.
+-- The frequencies of USB, the watchdog and flash, read from a head: rcc/clock_read.rs.
 use Prim.Native.Nat.{ℕ}
 use mathlib.Core.Bool.{cond}
 use lib.Dec.{eqb}

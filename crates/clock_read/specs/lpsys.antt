@@ -1,4 +1,4 @@
--- Frequencies of LPSYS read from a head, up to HCLK: rcc/clock_lpsys.rs. Assumes nothing.
+-- Frequencies of LPSYS read from a head, up to HCLK: rcc/clock_lpsys.rs.
 use Prim.Native.Nat.{ℕ}
 use mathlib.Core.Bool.{cond}
 use lib.Dec.{eqb}

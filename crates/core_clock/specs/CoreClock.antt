@@ -1,4 +1,4 @@
--- The steps that set the core clock as a plan has it: rcc/clock_config.rs. Assumes nothing.
+-- The steps that set the core clock as a plan has it: rcc/clock_config.rs.
 use Prim.Native.Nat.{ℕ}
 use mathlib.Core.Bool.{cond}
 use mathlib.Core.List.{List}

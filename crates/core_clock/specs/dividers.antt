@@ -1,4 +1,4 @@
--- The dividers of the core and its buses: rcc/clock_config.rs. Assumes nothing.
+-- The dividers of the core and its buses: rcc/clock_config.rs.
 use Rattle.plan.specs.declared.Plan.{Plan}
 use Rattle.register.specs.Word.{wordOf}
 use Rattle.journal.specs.Run.{Effect, store}

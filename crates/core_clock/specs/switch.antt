@@ -1,4 +1,4 @@
--- The core clock set as a plan has it, between the halves of a supply transition: rcc/clock_config.rs. Assumes nothing.
+-- The core clock set as a plan has it, between the halves of a supply transition: rcc/clock_config.rs.
 use Prim.Native.Nat.{ℕ}
 use mathlib.Core.List.{List}
 use Rattle.time.specs.Frequency.{megahertz, hzOr}

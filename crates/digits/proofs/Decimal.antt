@@ -1,4 +1,4 @@
--- Digits read one after the other, the number cut at the largest each time, spell the request. Assumes nothing.
+-- Digits read one after the other, the number cut at the largest each time, spell the request.
 use Prim.Native.Nat.{ℕ, suc, _+_, _-_, _*_, _<_, _≤_, min}
 use mathlib.Core.Path.{_≡_, refl, ap}
 use mathlib.Core.Bool.{Bool, true, false, cond, _&&_}

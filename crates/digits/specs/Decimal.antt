@@ -1,4 +1,4 @@
--- "a request in decimal (otherwise 0)". Assumes nothing.
+-- "a request in decimal (otherwise 0)".
 use Prim.Native.Nat.{ℕ, _+_, _*_, _-_, min}
 use mathlib.Core.Bool.{Bool, true, cond, _&&_}
 use mathlib.Core.List.{List, [], _∷_}

@@ -1,4 +1,4 @@
--- Bytes and words in upper-case hexadecimal. Assumes nothing.
+-- Bytes and words in upper-case hexadecimal.
 use Prim.Native.Nat.{ℕ, zero, suc, _+_, _-_, _*_, _/_, _%_}
 use mathlib.Core.Bool.{Bool, true, false, cond, _&&_}
 use mathlib.Core.List.{List, [], _∷_, _++_}

@@ -1,4 +1,4 @@
--- What is stored in the registers of the DLLs and in register 11 fits them. Assumes nothing.
+-- What is stored in the registers of the DLLs and in register 11 fits them.
 use Prim.Native.Nat.{ℕ, zero, suc, _≤_}
 use mathlib.Core.Path.{_≡_}
 use mathlib.Core.Bool.{true}

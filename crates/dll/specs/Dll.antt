@@ -1,4 +1,4 @@
--- A DLL set anew: `configure_dll1` of rcc/clock_config.rs, and the same stores for DLL2 in `init`. Assumes nothing.
+-- A DLL set anew: `configure_dll1` of rcc/clock_config.rs, and the same stores for DLL2 in `init`.
 use Prim.Native.Nat.{ℕ}
 use mathlib.Core.Bool.{cond}
 use mathlib.Core.List.{List}

@@ -1,4 +1,4 @@
--- Supply modes and rows of HPSYS, pmu/dvfs.rs. Assumes nothing.
+-- Supply modes and rows of HPSYS, pmu/dvfs.rs.
 use Prim.Native.Nat.{ℕ}
 use mathlib.Core.Bool.{cond}
 use lib.IntN.{ℤ, pos, negsuc}

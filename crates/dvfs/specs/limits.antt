@@ -1,4 +1,4 @@
--- Limits of the supply modes that no call asks for, pmu/dvfs.rs. Assumes nothing.
+-- Limits of the supply modes that no call asks for, pmu/dvfs.rs.
 use Prim.Native.Nat.{ℕ}
 use Rattle.dvfs.specs.declared.hpsys.HpsysDvfsMode.{HpsysDvfsMode}
 use Rattle.dvfs.specs.declared.hpsys.HpsysDvfsMode.the-variants.{D0, D1, S0, S1}

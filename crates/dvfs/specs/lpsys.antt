@@ -1,4 +1,4 @@
--- Supply modes and rows of LPSYS, pmu/dvfs.rs. Assumes nothing.
+-- Supply modes and rows of LPSYS, pmu/dvfs.rs.
 use Prim.Native.Nat.{ℕ}
 use mathlib.Core.Bool.{cond}
 use lib.Dec.{leb}

@@ -1,4 +1,4 @@
--- `config_hcpu_dvfs` of pmu/dvfs.rs by its modes: "Closures passed to a transition become its first and second half." Assumes nothing.
+-- `config_hcpu_dvfs` of pmu/dvfs.rs by its modes: "Closures passed to a transition become its first and second half."
 use mathlib.Core.Bool.{Bool, true, false, cond}
 use lib.Dec.{eqb}
 use Rattle.journal.specs.Run.{Effect, idle}

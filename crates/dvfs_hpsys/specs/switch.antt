@@ -1,4 +1,4 @@
--- Supply transitions of HPSYS, pmu/dvfs.rs: "Closures passed to a transition become its first and second half." Assumes nothing.
+-- Supply transitions of HPSYS, pmu/dvfs.rs: "Closures passed to a transition become its first and second half."
 use Rattle.journal.specs.Run.{Effect, _▸_, store, delay}
 use Rattle.dvfs.specs.declared.hpsys.HpsysDvfsMode.{HpsysDvfsMode}
 use Rattle.dvfs.specs.Hpsys.{rowOf}

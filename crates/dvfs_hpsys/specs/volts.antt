@@ -1,4 +1,4 @@
--- The volts and the timing of a mode of HPSYS, pmu/dvfs.rs. Assumes nothing.
+-- The volts and the timing of a mode of HPSYS, pmu/dvfs.rs.
 use Prim.Native.Nat.{ℕ}
 use lib.IntN.{ℤ, pos, negsuc, _+ℤ_}
 use Rattle.journal.specs.Run.{Effect, _▸_, store}

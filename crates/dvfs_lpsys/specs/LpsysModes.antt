@@ -1,4 +1,4 @@
--- The transitions of LPSYS by their modes: pmu/dvfs.rs, `config_lpsys_dvfs`. Assumes nothing.
+-- The transitions of LPSYS by their modes: pmu/dvfs.rs, `config_lpsys_dvfs`.
 use Rattle.journal.specs.Run.{Effect, idle}
 use Rattle.dvfs.specs.declared.lpsys.LpsysDvfsMode.{LpsysDvfsMode}
 use Rattle.dvfs.specs.declared.lpsys.LpsysDvfsMode.the-variants.{D, S}

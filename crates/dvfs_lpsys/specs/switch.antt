@@ -1,4 +1,4 @@
--- Supply transitions of LPSYS, pmu/dvfs.rs: "Closures passed to a transition become its first and second half." Assumes nothing.
+-- Supply transitions of LPSYS, pmu/dvfs.rs: "Closures passed to a transition become its first and second half."
 use Rattle.journal.specs.Run.{Effect, _▸_, store, delay}
 use Rattle.dvfs.specs.declared.lpsys.LpsysDvfsMode.the-variants.{D, S}
 use Rattle.dvfs.specs.lpsys.{lpsysRowOf}

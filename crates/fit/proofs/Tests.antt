@@ -1,4 +1,4 @@
--- The tests of a fit head, as far as they are passed. Assumes nothing.
+-- The tests of a fit head, as far as they are passed.
 use Prim.Native.Nat.{ℕ, _≤_, _<_}
 use mathlib.Core.Path.{_≡_, _∙_}
 use mathlib.Core.Bool.{Bool, true, false, _&&_}

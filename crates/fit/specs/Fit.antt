@@ -1,4 +1,4 @@
--- A fit head. Assumes nothing.
+-- A fit head.
 use Prim.Native.Nat.{ℕ}
 use mathlib.Core.Bool.{Bool, true, false, cond, _&&_, _||_}
 use lib.Dec.{eqb, leb}

@@ -1,4 +1,4 @@
--- The rail limit: the highest HCLK that the active supply carries, by what its registers hold. Assumes nothing.
+-- The rail limit: the highest HCLK that the active supply carries, by what its registers hold.
 use Prim.Native.Nat.{ℕ, _*_}
 use mathlib.Core.Bool.{Bool, cond, _&&_}
 use lib.Dec.{eqb, leb}

@@ -1,4 +1,4 @@
--- The ways out of the guarded change: the shared tests refuse, the plan's, its own, or it runs. Assumes nothing.
+-- The ways out of the guarded change: the shared tests refuse, the plan's, its own, or it runs.
 use Prim.Native.Nat.{ℕ}
 use mathlib.Core.Path.{_≡_, sym, ap, _∙_, subst}
 use mathlib.Core.List.{List, [], _∷_}

@@ -1,4 +1,4 @@
--- The guarded change on the bytes lent to it: `pb` a plan's, `b` a head's, `j` a journal, `a` answers. Assumes nothing.
+-- The guarded change on the bytes lent to it: `pb` a plan's, `b` a head's, `j` a journal, `a` answers.
 use Prim.Native.Nat.{ℕ}
 use mathlib.Core.List.{List, _∷_, _++_}
 use Rattle.record.specs.Refusals.{firstOf}

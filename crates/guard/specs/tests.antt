@@ -1,4 +1,4 @@
--- The tests of the guarded change on a plan and a head. Assumes nothing.
+-- The tests of the guarded change on a plan and a head.
 use Prim.Native.Nat.{ℕ}
 use mathlib.Core.Bool.{Bool, not, _&&_, _||_}
 use mathlib.Core.List.{List, [], _∷_}

@@ -1,4 +1,4 @@
--- The guarded change, document 01's (1) to (8) one after the other, as an effect on a running call. Assumes nothing.
+-- The guarded change, document 01's (1) to (8) one after the other, as an effect on a running call.
 use Prim.Native.Nat.{ℕ}
 use mathlib.Core.List.{List}
 use Rattle.time.specs.Frequency.{hzOr}

@@ -1,5 +1,5 @@
 -- The steps of the guarded change that move the flash selects and the core's, document 01's (2), (3), (6) and (7), each as an effect on a
--- running call. Assumes nothing.
+-- running call.
 use Prim.Native.Nat.{ℕ}
 use mathlib.Core.Bool.{cond}
 use lib.Dec.{eqb}

@@ -1,4 +1,4 @@
--- The flash selects of a head, moved away from DLL1: document 01's (2) and (7) of the guarded change. Assumes nothing.
+-- The flash selects of a head, moved away from DLL1: document 01's (2) and (7) of the guarded change.
 use Prim.Native.Nat.{ℕ}
 use mathlib.Core.Bool.{Bool, cond, _||_}
 use lib.Dec.{eqb}

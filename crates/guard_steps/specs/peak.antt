@@ -1,4 +1,4 @@
--- The peak of a guarded change. Assumes nothing.
+-- The peak of a guarded change.
 use Prim.Native.Nat.{ℕ}
 use mathlib.Core.Bool.{cond}
 use lib.Dec.{leb}

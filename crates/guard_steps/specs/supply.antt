@@ -1,4 +1,4 @@
--- The supply in the guarded change: document 01's steps (1) and (8), each as an effect on a running call. Assumes nothing.
+-- The supply in the guarded change: document 01's steps (1) and (8), each as an effect on a running call.
 use mathlib.Core.Bool.{cond}
 use lib.Dec.{ltb}
 use Rattle.head.specs.declared.Head.{Head}

@@ -1,4 +1,4 @@
--- The laws that go through a head field by field. Assumes nothing.
+-- The laws that go through a head field by field.
 use Prim.Native.Nat.{ℕ, zero, suc, _+_, _-_, _≤_, _<_}
 use mathlib.Core.Path.{_≡_, refl, ap, sym, _∙_}
 use mathlib.Core.Bool.{Bool, true, false}

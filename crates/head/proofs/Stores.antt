@@ -1,5 +1,5 @@
 -- What keeps a head encodable: a change that leaves the tasks, as a store of a value within a register's codes, which changes that
--- register only. The blank head is encodable. Assumes nothing.
+-- register only. The blank head is encodable.
 use Prim.Native.Nat.{ℕ, _<_}
 use mathlib.Core.Path.{_≡_, refl, _∙_}
 use mathlib.Core.Bool.{Bool, true, false}

@@ -1,4 +1,4 @@
--- Heads that have a record. Assumes nothing.
+-- Heads that have a record.
 use Prim.Native.Nat.{ℕ, _-_, _≤_, _<_}
 use mathlib.Core.Path.{_≡_}
 use mathlib.Core.Bool.{true}

@@ -1,4 +1,4 @@
--- What a head has booked, and a head with one part of it changed. Nothing else writes a changed head out field by field. Assumes nothing.
+-- What a head has booked, and a head with one part of it changed. Nothing else writes a changed head out field by field.
 use Prim.Native.Nat.{ℕ}
 use mathlib.Core.Bool.{Bool}
 use mathlib.Core.List.{List}

@@ -1,4 +1,4 @@
--- The head record and its refusals. Assumes nothing.
+-- The head record and its refusals.
 use Prim.Native.Nat.{ℕ, _+_, _*_, _/_, _%_}
 use mathlib.Core.Bool.{Bool, false, not, _&&_}
 use mathlib.Core.List.{List, [], _∷_, _++_}

@@ -1,4 +1,4 @@
--- The booked tasks of a head, with one more and with one less. Assumes nothing.
+-- The booked tasks of a head, with one more and with one less.
 use Prim.Native.Nat.{ℕ, suc}
 use mathlib.Core.Bool.{cond}
 use mathlib.Core.List.{List, [], _∷_, _++_}

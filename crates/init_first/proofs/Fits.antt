@@ -1,4 +1,4 @@
--- A flag that is 1 fits the registers that `init` turns on. Assumes nothing.
+-- A flag that is 1 fits the registers that `init` turns on.
 use mathlib.Core.Path.{_≡_, refl}
 use mathlib.Core.Bool.{true}
 use Rattle.record.specs.Bytes.{isWithin}

@@ -1,4 +1,4 @@
--- What `init` of rcc/clock_config.rs does before it sets the core clock, on all but a standby boot. Assumes nothing.
+-- What `init` of rcc/clock_config.rs does before it sets the core clock, on all but a standby boot.
 use Prim.Native.Nat.{ℕ}
 use mathlib.Core.Path.{_≡_}
 use mathlib.Core.Bool.{cond}

@@ -1,4 +1,4 @@
--- What `init` of rcc/clock_config.rs begins with. Assumes nothing.
+-- What `init` of rcc/clock_config.rs begins with.
 use Prim.Native.Nat.{ℕ}
 use mathlib.Core.Bool.{cond}
 use mathlib.Core.List.{List}

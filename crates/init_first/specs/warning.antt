@@ -1,4 +1,4 @@
--- The warning of `init` of rcc/clock_config.rs. Assumes nothing.
+-- The warning of `init` of rcc/clock_config.rs.
 use Prim.Native.Nat.{ℕ}
 use mathlib.Core.Bool.{Bool, cond, _||_}
 use lib.Dec.{eqb}

@@ -1,4 +1,4 @@
--- The flash selects, the USB divider and the selects of a legal plan fit their registers. Assumes nothing.
+-- The flash selects, the USB divider and the selects of a legal plan fit their registers.
 use Prim.Native.Nat.{ℕ, _≤_}
 use mathlib.Core.Path.{_≡_, subst}
 use mathlib.Core.Bool.{true}

@@ -1,4 +1,4 @@
--- What `init` of rcc/clock_config.rs sets after the core clock: DLL2, USB, the other selects. Assumes nothing.
+-- What `init` of rcc/clock_config.rs sets after the core clock: DLL2, USB, the other selects.
 use Prim.Native.Nat.{ℕ}
 use mathlib.Core.Bool.{Bool, cond, _&&_}
 use mathlib.Core.List.{List}

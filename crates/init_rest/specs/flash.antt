@@ -1,4 +1,4 @@
--- The flash selects, once `init` of rcc/clock_config.rs has set DLL2 anew. Assumes nothing.
+-- The flash selects, once `init` of rcc/clock_config.rs has set DLL2 anew.
 use Prim.Native.Nat.{ℕ}
 use mathlib.Core.Bool.{cond}
 use lib.Dec.{eqb}

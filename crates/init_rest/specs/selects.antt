@@ -1,4 +1,4 @@
--- USB and the other selects, as `init` of rcc/clock_config.rs sets them. Assumes nothing.
+-- USB and the other selects, as `init` of rcc/clock_config.rs sets them.
 use mathlib.Core.Bool.{cond}
 use Rattle.plan.specs.declared.Plan.{Plan}
 use Rattle.plan_clocks.specs.Clocks.{usbDivider}

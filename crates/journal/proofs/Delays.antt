@@ -1,4 +1,4 @@
--- A delay, as the code makes it. Assumes nothing.
+-- A delay, as the code makes it.
 use Prim.Native.Nat.{ℕ, _*_, _≤_}
 use mathlib.Core.Path.{_≡_, refl, ap, sym, _∙_}
 use mathlib.Core.Bool.{Bool, true, false, cond}

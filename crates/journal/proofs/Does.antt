@@ -1,5 +1,4 @@
 -- What functions over the machine promise, put together: `_then_` for two calls, `lent-after` for what the next call is lent.
--- Assumes nothing.
 use Prim.Native.Nat.{ℕ, _+_, _-_, _≤_}
 use native.Mathlib.Omega.{arith}
 use mathlib.Core.Path.{_≡_, refl, ap, _∙_}

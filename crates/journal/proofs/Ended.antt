@@ -1,4 +1,4 @@
--- Effects that do nothing on a call that has ended. Assumes nothing.
+-- Effects that do nothing on a call that has ended.
 use Prim.Native.Nat.{ℕ}
 use mathlib.Core.Path.{_≡_, ap, sym, _∙_}
 use mathlib.Core.List.{List}

@@ -1,5 +1,5 @@
 -- An effect only appends: entries that stand before it change nothing of what it does. So it may be done on the rest of a journal, from its
--- own zero. Assumes nothing.
+-- own zero.
 use Prim.Native.Nat.{ℕ, _+_, _-_, _*_, _≤_}
 use mathlib.Core.Path.{_≡_, refl, ap, sym, _∙_, subst}
 use mathlib.Core.Bool.{Bool, true, false, cond}

@@ -1,4 +1,4 @@
--- What holds at every moment of a run: before its first entry and after each one. Assumes nothing.
+-- What holds at every moment of a run: before its first entry and after each one.
 use Prim.Native.Nat.{ℕ, _+_, _*_, _≤_, _<_}
 use mathlib.Core.Path.{_≡_, refl, sym, subst}
 use mathlib.Core.Bool.{Bool, true, false, cond}

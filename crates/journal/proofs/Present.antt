@@ -1,4 +1,4 @@
--- What the promise of an effect says of the machine that comes out, without a run in hand. Assumes nothing.
+-- What the promise of an effect says of the machine that comes out, without a run in hand.
 use Prim.Native.Nat.{ℕ, _≤_}
 use mathlib.Core.Path.{_≡_, refl, ap, _∙_}
 use mathlib.Core.Bool.{Bool, true, false, cond}

@@ -1,4 +1,4 @@
--- How the code's state follows a run, one entry at a time. Assumes nothing.
+-- How the code's state follows a run, one entry at a time.
 use Prim.Native.Nat.{ℕ, suc, _+_, _<_}
 use mathlib.Core.Path.{_≡_, refl, ap, sym, _∙_, subst}
 use mathlib.Core.List.{List, [], _∷_, _++_, append-assoc}

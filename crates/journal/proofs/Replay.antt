@@ -1,4 +1,4 @@
--- Putting the stores of a call's entries into the registers that it got gives the registers that it leaves. Assumes nothing.
+-- Putting the stores of a call's entries into the registers that it got gives the registers that it leaves.
 use Prim.Native.Nat.{ℕ, _+_, _*_, _/_, _%_, _<_, _≤_}
 use mathlib.Core.Path.{_≡_, refl, ap, _∙_}
 use mathlib.Core.Bool.{Bool, true, false, cond}

@@ -1,4 +1,4 @@
--- A store, as the code makes it. Assumes nothing.
+-- A store, as the code makes it.
 use Prim.Native.Nat.{ℕ, _+_, _<_}
 use mathlib.Core.Path.{_≡_, refl}
 use mathlib.Core.List.{List, [], _∷_, _++_}

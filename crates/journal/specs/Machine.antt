@@ -1,4 +1,4 @@
--- The code's state of a running call, and what it means that code does an effect. Assumes nothing.
+-- The code's state of a running call, and what it means that code does an effect.
 use Prim.Native.Nat.{ℕ, _+_, _≤_}
 use mathlib.Core.Path.{_≡_}
 use mathlib.Core.List.{List, _++_}

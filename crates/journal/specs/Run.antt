@@ -1,4 +1,4 @@
--- A call on a head as it runs, and the three things that it can do: store, delay, wait. Assumes nothing.
+-- A call on a head as it runs, and the three things that it can do: store, delay, wait.
 use Prim.Native.Nat.{ℕ, _+_, _*_, _/_, _%_}
 use mathlib.Core.Bool.{true, cond}
 use mathlib.Core.List.{List, [], _∷_, _++_}

@@ -1,4 +1,4 @@
--- The layout of a head record: the places of its bytes, its sizes and its lengths, as `layout` has them in src. Assumes nothing.
+-- The layout of a head record: the places of its bytes, its sizes and its lengths, as `layout` has them in src.
 use Prim.Native.Nat.{ℕ, _+_, _*_, _-_}
 
 -- "a 2-byte big-endian length .., version 1"

@@ -1,4 +1,4 @@
--- Tests 4 to 14 of a plan: a source that the plan does not have, a frequency outside its limits, each in Hz. Assumes nothing.
+-- Tests 4 to 14 of a plan: a source that the plan does not have, a frequency outside its limits, each in Hz.
 use Prim.Native.Nat.{ℕ, _%_}
 use mathlib.Core.Bool.{Bool, true, false, cond, not, _&&_}
 use lib.Dec.{eqb, ltb}

@@ -3,7 +3,6 @@
 --     most         a share is at most this
 --     Turn ys      the loop's state: the position, the sum so far, and what is known of them
 --     start, next, over    the first one, the one after a turn, and what holds when the position is the count
--- Assumes nothing.
 use mathlib.Core.Path.{_≡_, refl, sym, _∙_, ap}
 use Prim.Native.Nat.{ℕ, zero, suc, _+_, _*_, _-_, _/_, _<_, _≤_, _^_}
 use native.Mathlib.Nat.{not-suc-le-zero, le-of-suc-le-suc, le-trans, div-le-self}

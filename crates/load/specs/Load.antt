@@ -1,4 +1,4 @@
--- A task's share and the load of tasks. Assumes nothing.
+-- A task's share and the load of tasks.
 use Prim.Native.Nat.{ℕ, _+_, _*_, _-_, _/_}
 use mathlib.Core.Bool.{cond}
 use mathlib.Core.List.{List, [], _∷_}

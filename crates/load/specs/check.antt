@@ -1,4 +1,4 @@
--- The load check. Assumes nothing.
+-- The load check.
 use Prim.Native.Nat.{ℕ, _+_, _/_, _%_}
 use mathlib.Core.Bool.{cond, not}
 use mathlib.Core.List.{List, [], _∷_}

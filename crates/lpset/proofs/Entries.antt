@@ -1,4 +1,4 @@
--- A request's entries lie in the journal that it leaves. Assumes nothing.
+-- A request's entries lie in the journal that it leaves.
 use Prim.Native.Nat.{ℕ, _≤_}
 use mathlib.Core.List.{List}
 use lib.ListN.{length}

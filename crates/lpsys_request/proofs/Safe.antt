@@ -1,4 +1,4 @@
--- From a head on which LPSYS keeps its limit and its source reads, every moment of an LPSYS request keeps it. Assumes nothing.
+-- From a head on which LPSYS keeps its limit and its source reads, every moment of an LPSYS request keeps it.
 use Prim.Native.Nat.{ℕ, _/_, _≤_, _<_}
 use mathlib.Core.Path.{_≡_, refl, ap, sym, _∙_}
 use mathlib.Core.Bool.{Bool, true, false, cond}

@@ -1,4 +1,4 @@
--- The LPSYS request of rcc/clock_lpsys.rs, as an effect on a running call. Assumes nothing.
+-- The LPSYS request of rcc/clock_lpsys.rs, as an effect on a running call.
 use Prim.Native.Nat.{ℕ}
 use Rattle.head.specs.declared.Head.{Head}
 use Rattle.journal.specs.Run.{Effect, _▸_}

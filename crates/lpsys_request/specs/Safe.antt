@@ -1,4 +1,4 @@
--- The limit of the LPSYS clock on its D supply. Assumes nothing.
+-- The limit of the LPSYS clock on its D supply.
 use Prim.Native.Nat.{ℕ, _≤_}
 use mathlib.Core.Path.{_≡_}
 use mathlib.Core.List.{List}

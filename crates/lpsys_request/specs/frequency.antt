@@ -1,4 +1,4 @@
--- What the calls that set the frequency of LPSYS leave, on the bytes lent to them. Assumes nothing.
+-- What the calls that set the frequency of LPSYS leave, on the bytes lent to them.
 use Prim.Native.Nat.{ℕ}
 use mathlib.Core.Bool.{Bool, true, false}
 use mathlib.Core.List.{List, [], _∷_}

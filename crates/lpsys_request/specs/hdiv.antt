@@ -1,4 +1,4 @@
--- The divider of LPSYS HCLK, as an effect on a running call. Assumes nothing.
+-- The divider of LPSYS HCLK, as an effect on a running call.
 use Prim.Native.Nat.{ℕ}
 use Rattle.register.specs.Word.{wordOf, byteB, byteC}
 use Rattle.head.specs.declared.Head.{Head}

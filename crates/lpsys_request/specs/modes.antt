@@ -1,4 +1,4 @@
--- The modes and the divider of an LPSYS request, rcc/clock_lpsys.rs, `config_lpsys_hclk_mhz`. Assumes nothing.
+-- The modes and the divider of an LPSYS request, rcc/clock_lpsys.rs, `config_lpsys_hclk_mhz`.
 use Prim.Native.Nat.{ℕ, _*_, _/_}
 use mathlib.Core.Bool.{cond}
 use lib.Dec.{leb}

@@ -1,4 +1,4 @@
--- `ensure_safe_lcpu_frequency` of rcc/clock_lpsys.rs, as an effect on a running call. Assumes nothing.
+-- `ensure_safe_lcpu_frequency` of rcc/clock_lpsys.rs, as an effect on a running call.
 use mathlib.Core.Bool.{cond}
 use lib.Dec.{ltb}
 use Rattle.time.specs.Frequency.{hzOr}

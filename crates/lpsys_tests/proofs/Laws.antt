@@ -1,4 +1,4 @@
--- What is not refused is within its range. Assumes nothing.
+-- What is not refused is within its range.
 use Prim.Native.Nat.{ℕ, _≤_}
 use mathlib.Core.Path.{_≡_}
 use mathlib.Core.Bool.{_||_}

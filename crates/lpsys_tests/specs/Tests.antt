@@ -1,4 +1,4 @@
--- The tests of what the calls of rcc/clock_lpsys.rs are given. Assumes nothing.
+-- The tests of what the calls of rcc/clock_lpsys.rs are given.
 use Prim.Native.Nat.{ℕ}
 use mathlib.Core.Bool.{Bool, _||_}
 use lib.Dec.{eqb, ltb}

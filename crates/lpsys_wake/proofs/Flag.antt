@@ -1,4 +1,4 @@
--- An effect that a flag of the head decides. Assumes nothing.
+-- An effect that a flag of the head decides.
 use Prim.Native.Nat.{ℕ}
 use mathlib.Core.Path.{_≡_, sym, ap, _∙_}
 use mathlib.Core.Bool.{Bool}

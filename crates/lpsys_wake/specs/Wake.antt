@@ -1,4 +1,4 @@
--- Waking the LPSYS core, rcc/clock_lpsys.rs, as effects on a running call. Assumes nothing.
+-- Waking the LPSYS core, rcc/clock_lpsys.rs, as effects on a running call.
 use Prim.Native.Nat.{ℕ}
 use mathlib.Core.Bool.{cond}
 use mathlib.Core.List.{List}

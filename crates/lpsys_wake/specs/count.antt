@@ -1,4 +1,4 @@
--- The count of wakes of the LPSYS core, rcc/clock_lpsys.rs, as effects on a running call. Assumes nothing.
+-- The count of wakes of the LPSYS core, rcc/clock_lpsys.rs, as effects on a running call.
 use Prim.Native.Nat.{ℕ, _+_, _%_}
 use Rattle.head.specs.declared.Head.{Head}
 use Rattle.head.specs.Head.{withWakeCount}

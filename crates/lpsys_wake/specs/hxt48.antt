@@ -1,4 +1,4 @@
--- The crystal HXT48 of both domains, rcc/clock_lpsys.rs, as effects on a running call. Assumes nothing.
+-- The crystal HXT48 of both domains, rcc/clock_lpsys.rs, as effects on a running call.
 use Prim.Native.Nat.{ℕ}
 use mathlib.Core.Bool.{Bool, cond}
 use mathlib.Core.List.{List}

@@ -1,4 +1,4 @@
--- One word more of a file's answers. Assumes nothing.
+-- One word more of a file's answers.
 use Prim.Native.Nat.{ℕ, _+_, _*_, _<_}
 use mathlib.Core.Path.{_≡_, refl}
 use mathlib.Core.Bool.{Bool, true, false}

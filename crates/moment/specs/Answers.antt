@@ -1,4 +1,4 @@
--- Answers in a file. Assumes nothing.
+-- Answers in a file.
 use Prim.Native.Nat.{ℕ, _+_, _*_, _/_, _<_, min}
 use mathlib.Core.Path.{_≡_}
 use mathlib.Core.List.{List}

@@ -1,4 +1,4 @@
--- A frequency in MHz as text. Assumes nothing.
+-- A frequency in MHz as text.
 use Prim.Native.Nat.{ℕ, _+_, _/_, _%_}
 use mathlib.Core.Bool.{cond}
 use mathlib.Core.List.{List, [], _∷_}

@@ -1,4 +1,4 @@
--- The entries of a guarded change lie in the journal that it leaves. Assumes nothing.
+-- The entries of a guarded change lie in the journal that it leaves.
 use Prim.Native.Nat.{ℕ, _≤_}
 use mathlib.Core.List.{List}
 use lib.ListN.{length}

@@ -1,4 +1,4 @@
--- What a legal plan has. Assumes nothing.
+-- What a legal plan has.
 use Prim.Native.Nat.{_≤_}
 use mathlib.Core.Path.{_≡_}
 use mathlib.Core.Bool.{true}

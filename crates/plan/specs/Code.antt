@@ -1,4 +1,4 @@
--- The codes of a plan's fields, as the bytes of a plan record of document 01 have them. Assumes nothing.
+-- The codes of a plan's fields, as the bytes of a plan record of document 01 have them.
 use Rattle.record.specs.Bytes.{bit}
 use Prim.Native.Nat.{ℕ}
 use mathlib.Core.List.{List, [], _∷_}

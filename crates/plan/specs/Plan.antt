@@ -1,4 +1,4 @@
--- The record of a plan value, and which values have one. Assumes nothing.
+-- The record of a plan value, and which values have one.
 use Prim.Native.Nat.{ℕ}
 use mathlib.Core.List.{List, [], _∷_}
 use mathlib.Core.Bool.{Bool}

@@ -1,4 +1,4 @@
--- The plan record of document 01, as bytes and as a value. Assumes nothing.
+-- The plan record of document 01, as bytes and as a value.
 use Prim.Native.Nat.{ℕ}
 use mathlib.Core.List.{List, [], _∷_}
 use mathlib.Core.Bool.{cond}

@@ -1,4 +1,4 @@
--- The codes of the bytes of a plan record of document 01. Assumes nothing.
+-- The codes of the bytes of a plan record of document 01.
 use Prim.Native.Nat.{ℕ}
 use mathlib.Core.List.{List}
 use mathlib.Core.Bool.{Bool, cond, _&&_, _||_}

@@ -1,4 +1,4 @@
--- The tests of a plan record of document 01. Assumes nothing.
+-- The tests of a plan record of document 01.
 use Prim.Native.Nat.{ℕ}
 use mathlib.Core.List.{List, [], _∷_}
 use mathlib.Core.Bool.{not}

@@ -1,4 +1,4 @@
--- The clocks that a plan gives. Assumes nothing.
+-- The clocks that a plan gives.
 use Prim.Native.Nat.{ℕ, _/_}
 use mathlib.Core.Bool.{cond}
 use lib.Dec.{eqb}

@@ -1,4 +1,4 @@
--- No frequency that reads is 0, where the source would panic. Assumes nothing.
+-- No frequency that reads is 0, where the source would panic.
 use Prim.Native.Nat.{ℕ, _/_, _≤_, _<_}
 use mathlib.Core.Path.{_≡_, refl}
 use mathlib.Core.Bool.{Bool, true, false, cond}

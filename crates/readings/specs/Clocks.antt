@@ -1,4 +1,4 @@
--- The frequencies of a head in their order, and the calls on its bytes. Assumes nothing.
+-- The frequencies of a head in their order, and the calls on its bytes.
 use Prim.Native.Nat.{ℕ}
 use mathlib.Core.Bool.{cond}
 use mathlib.Core.List.{List, [], _∷_}

@@ -1,4 +1,4 @@
--- LPSYS HCLK of a head's bytes. Assumes nothing.
+-- LPSYS HCLK of a head's bytes.
 use Prim.Native.Nat.{ℕ}
 use mathlib.Core.Bool.{cond}
 use mathlib.Core.List.{List}

@@ -1,4 +1,4 @@
--- Laws of `isWithin`. Assumes nothing.
+-- Laws of `isWithin`.
 use Prim.Native.Nat.{ℕ, zero, suc, _+_, _-_, _<_, _≤_}
 use mathlib.Core.Path.{_≡_, refl, ap, sym, _∙_}
 use mathlib.Core.Bool.{Bool, true, false, _&&_, _||_, false≢true}

@@ -1,4 +1,4 @@
--- A number of four bytes is read from its bytes as it was written. Assumes nothing.
+-- A number of four bytes is read from its bytes as it was written.
 use Prim.Native.Nat.{ℕ, _/_, _%_, _≤_, _<_}
 use mathlib.Core.Path.{_≡_}
 use mathlib.Core.List.{List, [], _∷_, _++_}

@@ -1,4 +1,4 @@
--- Laws of `items` and `joined`, and of an array that a loop fills from the front. Assumes nothing.
+-- Laws of `items` and `joined`, and of an array that a loop fills from the front.
 use Prim.Native.Nat.{ℕ, zero, suc, _+_, _*_, _-_, _≤_, _<_}
 use mathlib.Core.Path.{_≡_, refl, ap, sym, _∙_}
 use mathlib.Core.List.{List, [], _∷_, _++_, append-assoc, append-nil}

@@ -1,4 +1,4 @@
--- A list as its elements by place. Assumes nothing.
+-- A list as its elements by place.
 use Prim.Native.Nat.{ℕ, zero, suc, _+_, _≤_, _<_}
 use mathlib.Core.Path.{_≡_, refl, ap, _∙_}
 use mathlib.Core.List.{List, [], _∷_}

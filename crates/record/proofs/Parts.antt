@@ -1,4 +1,4 @@
--- Laws of `isWithin` on parts of a record. Assumes nothing.
+-- Laws of `isWithin` on parts of a record.
 use Prim.Native.Nat.{ℕ, zero, suc, _+_, _*_, _<_}
 use mathlib.Core.Path.{_≡_, refl, _∙_}
 use mathlib.Core.Bool.{Bool, true, false, _&&_, false≢true}

@@ -1,4 +1,4 @@
--- Laws of `firstOf`. Assumes nothing.
+-- Laws of `firstOf`.
 use Prim.Native.Nat.{ℕ, suc}
 use mathlib.Core.Path.{_≡_, refl, sym, _∙_}
 use mathlib.Core.Bool.{Bool, true, false, cond, not}

@@ -1,4 +1,4 @@
--- Bytes of a record. Assumes nothing.
+-- Bytes of a record.
 use Prim.Native.Nat.{ℕ, _+_, _*_, _<_}
 use mathlib.Core.List.{List, [], _∷_}
 use mathlib.Core.Bool.{Bool, true, false, cond, _&&_}

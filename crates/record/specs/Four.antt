@@ -1,4 +1,4 @@
--- Numbers of four bytes. Assumes nothing.
+-- Numbers of four bytes.
 use Prim.Native.Nat.{ℕ, _+_, _*_, _/_, _%_}
 use mathlib.Core.List.{List, [], _∷_}
 use lib.ListN.{getD}

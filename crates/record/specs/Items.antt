@@ -1,4 +1,4 @@
--- Items of the same size, one after the other. Assumes nothing.
+-- Items of the same size, one after the other.
 use Prim.Native.Nat.{ℕ, zero, suc, _+_}
 use mathlib.Core.List.{List, [], _∷_, _++_}
 use lib.ListN.{length, take, drop}

@@ -1,4 +1,4 @@
--- Refusals in their order: document 01 lists tests, and the first that fails gives the number. Assumes nothing.
+-- Refusals in their order: document 01 lists tests, and the first that fails gives the number.
 use Prim.Native.Nat.{ℕ}
 use mathlib.Core.List.{List, [], _∷_}
 use mathlib.Core.Bool.{Bool, cond}

@@ -1,4 +1,4 @@
--- A line that matches a text is what was put there. Assumes nothing.
+-- A line that matches a text is what was put there.
 use Prim.Native.Nat.{ℕ}
 use mathlib.Core.Path.{_≡_, _∙_}
 use mathlib.Core.List.{List, _++_}

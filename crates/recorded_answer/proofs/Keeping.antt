@@ -1,4 +1,4 @@
--- Words of the journal that are kept, one more of them. Assumes nothing.
+-- Words of the journal that are kept, one more of them.
 use Prim.Native.Nat.{ℕ, _+_, _≤_, _<_}
 use mathlib.Core.Path.{_≡_, refl}
 use mathlib.Core.Bool.{Bool, true, false}

@@ -1,4 +1,4 @@
--- A line that records what a call is given and leaves, compared with a text and a journal. Assumes nothing.
+-- A line that records what a call is given and leaves, compared with a text and a journal.
 use Prim.Native.Nat.{ℕ, _≤_, _<_}
 use mathlib.Core.Path.{_≡_}
 use mathlib.Core.List.{List}

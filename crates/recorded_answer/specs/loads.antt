@@ -1,4 +1,4 @@
--- What a load check answers, as text. Assumes nothing.
+-- What a load check answers, as text.
 use Prim.Native.Nat.{ℕ}
 use mathlib.Core.List.{List, _++_}
 use Rattle.load.specs.check.{loadCheck}

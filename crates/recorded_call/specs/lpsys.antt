@@ -1,4 +1,4 @@
--- What the LPSYS calls leave, given an argument's bytes. Assumes nothing.
+-- What the LPSYS calls leave, given an argument's bytes.
 use Prim.Native.Nat.{ℕ}
 use mathlib.Core.List.{List}
 use lib.ListN.{getD}

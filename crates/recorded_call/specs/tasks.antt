@@ -1,4 +1,4 @@
--- What a booking and a release leave, given an argument's bytes. Assumes nothing.
+-- What a booking and a release leave, given an argument's bytes.
 use Prim.Native.Nat.{ℕ}
 use mathlib.Core.List.{List}
 use lib.ListN.{getD}

@@ -1,4 +1,4 @@
--- What every call leaves. Assumes nothing.
+-- What every call leaves.
 use Prim.Native.Nat.{ℕ, _≤_}
 use mathlib.Core.List.{List}
 use lib.ListN.{length}

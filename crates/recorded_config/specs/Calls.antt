@@ -1,4 +1,4 @@
--- What the calls of rcc/clock_config.rs and the guarded change leave, given a plan's bytes. Assumes nothing.
+-- What the calls of rcc/clock_config.rs and the guarded change leave, given a plan's bytes.
 use Prim.Native.Nat.{ℕ}
 use mathlib.Core.List.{List}
 use Rattle.call.specs.Call.{Result}

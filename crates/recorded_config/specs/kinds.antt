@@ -1,4 +1,4 @@
--- The clocks that the calls of rcc/clock_config.rs and the guarded change are lent. Assumes nothing.
+-- The clocks that the calls of rcc/clock_config.rs and the guarded change are lent.
 use Prim.Native.Nat.{ℕ}
 use Rattle.recorded_config.specs.declared.kinds.Call.{Call}
 use Rattle.recorded_config.specs.declared.kinds.Call.the-variants.{Calibrate, Init, Reconfigure, Change}

@@ -1,4 +1,4 @@
--- A number of four bytes from a place on. Assumes nothing.
+-- A number of four bytes from a place on.
 use Prim.Native.Nat.{ℕ, _+_, _≤_}
 use mathlib.Core.Path.{_≡_, sym}
 use mathlib.Core.List.{List}

@@ -1,4 +1,4 @@
--- Answers in a recorded line. Assumes nothing.
+-- Answers in a recorded line.
 use Prim.Native.Nat.{ℕ}
 use mathlib.Core.List.{List, [], _∷_}
 use Rattle.record.specs.Bytes.{twoBytes}

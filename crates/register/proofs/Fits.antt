@@ -1,4 +1,4 @@
--- Which values a register may hold. Assumes nothing.
+-- Which values a register may hold.
 use Prim.Native.Nat.{ℕ, zero, suc, _+_, _*_, _≤_, _<_}
 use mathlib.Core.Path.{_≡_, refl}
 use mathlib.Core.Bool.{true}

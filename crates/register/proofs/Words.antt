@@ -1,4 +1,4 @@
--- A word is read from its bytes as it was written. Assumes nothing.
+-- A word is read from its bytes as it was written.
 use Prim.Native.Nat.{ℕ, _/_, _%_, _≤_, _<_}
 use mathlib.Core.Path.{_≡_, refl}
 use mathlib.Core.List.{List, [], _∷_, _++_}

@@ -1,4 +1,4 @@
--- The codes of the registers and ready flags. Assumes nothing.
+-- The codes of the registers and ready flags.
 use Prim.Native.Nat.{ℕ, _*_}
 use mathlib.Core.Bool.{Bool, _&&_}
 use mathlib.Core.List.{List, [], _∷_}

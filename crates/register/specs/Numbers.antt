@@ -1,4 +1,4 @@
--- The registers' numbers by name, as `register` has them in src. Assumes nothing.
+-- The registers' numbers by name, as `register` has them in src.
 use Prim.Native.Nat.{ℕ}
 
 abbrev pub SYSCLK : ℕ

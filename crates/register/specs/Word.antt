@@ -1,4 +1,4 @@
--- Words of three bytes. Assumes nothing.
+-- Words of three bytes.
 use Prim.Native.Nat.{ℕ, _+_, _*_, _/_, _%_}
 use mathlib.Core.List.{List, [], _∷_}
 use lib.ListN.{getD}

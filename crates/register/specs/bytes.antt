@@ -1,4 +1,4 @@
--- The registers of a head record. Assumes nothing.
+-- The registers of a head record.
 use Prim.Native.Nat.{ℕ}
 use mathlib.Core.List.{List, _∷_}
 use lib.ListN.{drop}

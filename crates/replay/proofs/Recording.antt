@@ -1,4 +1,4 @@
--- A line that is put together from a call is the line that the definitions give. Assumes nothing.
+-- A line that is put together from a call is the line that the definitions give.
 use Prim.Native.Nat.{ℕ, _≤_}
 use mathlib.Core.Path.{_≡_, refl}
 use mathlib.Core.List.{List, [], _++_}

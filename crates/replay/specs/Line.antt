@@ -1,4 +1,4 @@
--- The line that records a call on a head. Assumes nothing.
+-- The line that records a call on a head.
 use Prim.Native.Nat.{ℕ}
 use mathlib.Core.Path.{_≡_}
 use mathlib.Core.List.{List, _++_}

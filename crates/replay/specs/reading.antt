@@ -1,4 +1,4 @@
--- The line that records a reading. Assumes nothing.
+-- The line that records a reading.
 use Prim.Native.Nat.{ℕ}
 use mathlib.Core.Path.{_≡_}
 use mathlib.Core.List.{List, _++_}

@@ -1,4 +1,4 @@
--- Laws of the tests on tasks. Assumes nothing.
+-- Laws of the tests on tasks.
 use Prim.Native.Nat.{ℕ, suc, _-_, _≤_, _<_}
 use mathlib.Core.Path.{_≡_, ap, _∙_}
 use mathlib.Core.Bool.{false, _||_}

@@ -1,4 +1,4 @@
--- Tasks and their rules. Assumes nothing.
+-- Tasks and their rules.
 use Prim.Native.Nat.{ℕ, _<_}
 use mathlib.Core.Bool.{Bool, true, false, not, _&&_, _||_}
 use mathlib.Core.List.{List, [], _∷_}

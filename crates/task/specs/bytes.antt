@@ -1,4 +1,4 @@
--- The booked tasks of a head record. Assumes nothing.
+-- The booked tasks of a head record.
 use Prim.Native.Nat.{ℕ, _-_}
 use mathlib.Core.Bool.{Bool, _&&_}
 use mathlib.Core.List.{List, _∷_, _++_}

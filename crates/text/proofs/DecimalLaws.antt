@@ -1,4 +1,4 @@
--- Numbers in decimal: the fewest digits. Assumes nothing.
+-- Numbers in decimal: the fewest digits.
 use Prim.Native.Nat.{ℕ, zero, suc, _+_, _-_, _/_, _%_, _^_, _<_, _≤_}
 use mathlib.Core.Path.{_≡_, refl, sym}
 use native.Mathlib.Omega.{arith}

@@ -1,4 +1,4 @@
--- Numbers in hexadecimal, one after the other. Assumes nothing.
+-- Numbers in hexadecimal, one after the other.
 use Prim.Native.Nat.{ℕ, zero, suc, _+_, _<_, _≤_}
 use mathlib.Core.Path.{_≡_, refl}
 use mathlib.Core.List.{List, [], _∷_, _++_, append-assoc, append-nil}

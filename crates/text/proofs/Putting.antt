@@ -1,4 +1,4 @@
--- Parts of a text, put one after the other. Assumes nothing.
+-- Parts of a text, put one after the other.
 use Prim.Native.Nat.{ℕ, suc, _≤_, _<_, _+_}
 use mathlib.Core.Path.{_≡_}
 use mathlib.Core.List.{List, [], _++_, append-assoc, append-nil}

@@ -1,4 +1,4 @@
--- Fields of numbers in upper-case hexadecimal. Assumes nothing.
+-- Fields of numbers in upper-case hexadecimal.
 use Prim.Native.Nat.{ℕ}
 use mathlib.Core.List.{List, [], _∷_, _++_}
 use Rattle.digits.specs.hexadecimal.{hexDigits}

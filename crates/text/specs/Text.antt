@@ -1,4 +1,4 @@
--- Text that is put together part by part. Assumes nothing.
+-- Text that is put together part by part.
 use Prim.Native.Nat.{ℕ, _≤_, _<_}
 use mathlib.Core.Path.{_≡_}
 use mathlib.Core.List.{List, _++_}

@@ -1,4 +1,4 @@
--- Where a reader of lines stands in its buffers. Assumes nothing.
+-- Where a reader of lines stands in its buffers.
 use Prim.Native.Nat.{ℕ, _≤_}
 use Rattle.text.specs.declared.lines.Reader.{Reader}
 use Rattle.text.specs.declared.lines.Line.{Line}

@@ -1,4 +1,4 @@
--- A frequency is its number of Hz. Assumes nothing.
+-- A frequency is its number of Hz.
 use Prim.Native.Nat.{ℕ}
 use mathlib.Core.Path.{_≡_, ap}
 use Rattle.time.specs.declared.Hertz.{Hertz}

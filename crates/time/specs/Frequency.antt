@@ -1,4 +1,4 @@
--- Frequencies as time.rs has them, at every operand. Assumes nothing.
+-- Frequencies as time.rs has them, at every operand.
 use Prim.Native.Nat.{ℕ, _/_}
 use Rattle.time.specs.declared.Reading.{Reading}
 use Rattle.time.specs.declared.Reading.the-variants.{At, Unreadable}

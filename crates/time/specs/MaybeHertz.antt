@@ -1,4 +1,4 @@
--- A frequency or none, as time.rs has it: 0 is none. Assumes nothing.
+-- A frequency or none, as time.rs has it: 0 is none.
 use Prim.Native.Nat.{ℕ}
 use mathlib.Core.Bool.{cond}
 use lib.Dec.{eqb}

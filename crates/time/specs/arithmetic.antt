@@ -1,4 +1,4 @@
--- The arithmetic of time.rs, at every operand. Assumes nothing.
+-- The arithmetic of time.rs, at every operand.
 use Prim.Native.Nat.{ℕ, _/_}
 use mathlib.Core.Bool.{cond}
 use lib.Dec.{eqb, ltb}

@@ -1,4 +1,4 @@
--- What an accepted plan has. Assumes nothing.
+-- What an accepted plan has.
 use mathlib.Core.Path.{_≡_, refl, sym}
 use mathlib.Core.Bool.{Bool, true, false, cond}
 use borrow.Author.Tests.{eqb-true}

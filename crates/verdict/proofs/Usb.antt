@@ -1,4 +1,4 @@
--- "The USB divider of an accepted plan is 1 to 6." Assumes nothing.
+-- "The USB divider of an accepted plan is 1 to 6."
 use Prim.Native.Nat.{ℕ, _/_, _%_, _≤_}
 use mathlib.Core.Path.{_≡_, refl, sym, ap, _∙_}
 use mathlib.Core.Bool.{Bool, true, false, cond, not, _&&_, false≢true}

@@ -1,4 +1,4 @@
--- The verdict on a plan: `ConfigBuilder::check`, and what an accepted plan gives. Assumes nothing.
+-- The verdict on a plan: `ConfigBuilder::check`, and what an accepted plan gives.
 use Prim.Native.Nat.{ℕ}
 use mathlib.Core.List.{List}
 use mathlib.Core.Bool.{cond}

@@ -1,4 +1,4 @@
--- A plan's bytes as a call takes them. Assumes nothing.
+-- A plan's bytes as a call takes them.
 use Prim.Native.Nat.{ℕ}
 use mathlib.Core.List.{List}
 use Rattle.plan.specs.declared.Plan.{Plan}

@@ -1,4 +1,4 @@
--- The tests of a plan: `ConfigBuilder::check`. Assumes nothing.
+-- The tests of a plan: `ConfigBuilder::check`.
 use Prim.Native.Nat.{ℕ}
 use mathlib.Core.List.{List, [], _∷_}
 use mathlib.Core.Bool.{not}

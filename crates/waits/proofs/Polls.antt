@@ -1,4 +1,4 @@
--- Polling, and a wait as the code makes it. Assumes nothing.
+-- Polling, and a wait as the code makes it.
 use Prim.Native.Nat.{ℕ, suc, _+_, _-_, _*_, _<_, _≤_}
 use mathlib.Core.Path.{_≡_, refl, ap, sym, _∙_, subst}
 use mathlib.Core.Bool.{Bool, true, false, cond}

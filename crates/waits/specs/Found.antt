@@ -1,4 +1,4 @@
--- What a look through the answers finds. Assumes nothing.
+-- What a look through the answers finds.
 use Prim.Native.Nat.{ℕ, _+_, _<_}
 use mathlib.Core.Path.{_≡_}
 use mathlib.Core.List.{List}

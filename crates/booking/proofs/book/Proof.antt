@@ -1,4 +1,4 @@
--- `booking::book` meets its contract: the head's tests, the booking's own, then the head with its task. Assumes nothing.
+-- `booking::book` meets its contract: the head's tests, the booking's own, then the head with its task.
 use mathlib.Core.Path.{_≡_, sym, ap, _∙_}
 use native.Mathlib.Omega.{arith}
 use borrow.Author.Needs.{needs}

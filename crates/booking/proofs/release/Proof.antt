@@ -1,4 +1,4 @@
--- `booking::release` meets its contract: the head's tests, 42, then the head without its task. Assumes nothing.
+-- `booking::release` meets its contract: the head's tests, 42, then the head without its task.
 use mathlib.Core.Path.{_≡_, sym, ap, _∙_}
 use mathlib.Core.Bool.{true, false}
 use native.Mathlib.Omega.{arith}

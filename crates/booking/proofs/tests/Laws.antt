@@ -1,4 +1,4 @@
--- The tests of a booking, as far as they are passed. Assumes nothing.
+-- The tests of a booking, as far as they are passed.
 use Prim.Native.Nat.{ℕ}
 use mathlib.Core.Path.{_≡_, refl}
 use mathlib.Core.Bool.{true, false}

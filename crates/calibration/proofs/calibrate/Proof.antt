@@ -1,4 +1,4 @@
--- `calibration::calibrate` meets its contract: one step after the other. Assumes nothing.
+-- `calibration::calibrate` meets its contract: one step after the other.
 use mathlib.Core.Path.{refl}
 use Rattle.record.specs.Bytes.{isWithin}
 use Rattle.register.specs.Word.{wordBytes}

@@ -1,4 +1,4 @@
--- `calibration::calibrate_hrc48` meets its contract: the flag picks the case. Assumes nothing.
+-- `calibration::calibrate_hrc48` meets its contract: the flag picks the case.
 use native.Mathlib.Omega.{arith}
 use Rattle.calibration.specs.Calibration.{calibrateHrc48On, calibrateHrc48}
 use Rattle.journal.proofs.Does.{does-within, by-head, takes-none, beside}

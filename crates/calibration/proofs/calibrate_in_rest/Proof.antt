@@ -1,4 +1,4 @@
--- `calibration::calibrate_in_rest` meets its contract: calibration only appends, so that the rest of the journal serves. Assumes nothing.
+-- `calibration::calibrate_in_rest` meets its contract: calibration only appends, so that the rest of the journal serves.
 use native.Mathlib.Omega.{arith}
 use Rattle.journal.proofs.Framed.{ran-lent}
 use Rattle.calibration.proofs.Laws.{framed-calibrate}

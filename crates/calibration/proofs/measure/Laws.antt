@@ -1,4 +1,4 @@
--- Laws of a measurement and of the verdict: on a call that has ended they do nothing, and they only append. Assumes nothing.
+-- Laws of a measurement and of the verdict: on a call that has ended they do nothing, and they only append.
 use Prim.Native.Nat.{ℕ, _/_, _%_, _≤_}
 use mathlib.Core.Path.{_≡_, refl}
 use mathlib.Core.Bool.{Bool, true, false, cond}

@@ -1,4 +1,4 @@
--- Laws of the search: its trims stay in their range, and on a call that has ended it does nothing. Assumes nothing.
+-- Laws of the search: its trims stay in their range, and on a call that has ended it does nothing.
 use Prim.Native.Nat.{ℕ, zero, suc, _+_, _-_, _*_, _/_, _≤_}
 use mathlib.Core.Path.{_≡_}
 use mathlib.Core.Bool.{Bool, true, false, cond}

@@ -1,4 +1,4 @@
--- What the loop of the search keeps, turn by turn. Assumes nothing.
+-- What the loop of the search keeps, turn by turn.
 use Prim.Native.Nat.{ℕ, suc, _+_, _-_, _*_, _/_, _<_, _≤_}
 use mathlib.Core.Path.{_≡_, _∙_}
 use mathlib.Core.Bool.{cond}

@@ -1,4 +1,4 @@
--- `call::admit_head` meets its contract: the head's tests decide. Assumes nothing.
+-- `call::admit_head` meets its contract: the head's tests decide.
 use borrow.Author.Needs.{needs}
 use Rattle.call.proofs.Admitting.{admits-decoded}
 use Rattle.call.proofs.admit_head.Statement.{statement}

@@ -1,4 +1,4 @@
--- `call::admit_with_answers` meets its contract: 17 and 18 before the head's tests. Assumes nothing.
+-- `call::admit_with_answers` meets its contract: 17 and 18 before the head's tests.
 use borrow.Author.Tests.{lt-ltb, le-ltb}
 use Rattle.record.specs.Refusals.{firstOf}
 use Rattle.call.proofs.Admitting.{admits-refused, admits-as}

@@ -1,4 +1,4 @@
--- The last two of 15. Assumes nothing.
+-- The last two of 15.
 use Prim.Native.Nat.{ℕ}
 use mathlib.Core.Path.{_≡_, refl}
 use mathlib.Core.List.{List, [], _∷_}

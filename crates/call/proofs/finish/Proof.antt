@@ -1,4 +1,4 @@
--- `call::finish` meets its contract. Assumes nothing.
+-- `call::finish` meets its contract.
 use mathlib.Core.Path.{refl, sym}
 use borrow.Author.Tests.{eq-eqb, ne-eqb}
 use borrow.Author.Needs.{needs}

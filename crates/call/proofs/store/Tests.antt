@@ -1,4 +1,4 @@
--- The caller's own test of a call that does one store. Assumes nothing.
+-- The caller's own test of a call that does one store.
 use Prim.Native.Nat.{ℕ}
 use mathlib.Core.Path.{_≡_, sym, _∙_}
 use mathlib.Core.List.{List, [], _∷_, _++_}

@@ -1,4 +1,4 @@
--- `call::unadmitted` meets its contract. Assumes nothing.
+-- `call::unadmitted` meets its contract.
 use mathlib.Core.Path.{refl}
 use borrow.Author.Needs.{needs}
 use Rattle.call.proofs.unadmitted.Statement.{statement}

@@ -1,4 +1,4 @@
--- The ways out of a call that is lent a plan, and what it leaves of the clocks. Assumes nothing.
+-- The ways out of a call that is lent a plan, and what it leaves of the clocks.
 use Prim.Native.Nat.{ℕ}
 use mathlib.Core.Path.{_≡_, refl, sym, ap, _∙_, subst}
 use mathlib.Core.Bool.{cond}

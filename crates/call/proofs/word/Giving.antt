@@ -1,4 +1,4 @@
--- From a call's answer to the word that C gets. Assumes nothing.
+-- From a call's answer to the word that C gets.
 use Prim.Native.Nat.{ℕ}
 use mathlib.Core.Path.{_≡_, _∙_}
 use mathlib.Core.List.{List}

@@ -1,4 +1,4 @@
--- Every moment of a guarded change from a fit head is fit, and what the change leaves. Assumes nothing.
+-- Every moment of a guarded change from a fit head is fit, and what the change leaves.
 use Prim.Native.Nat.{ℕ, _≤_, _<_}
 use mathlib.Core.Path.{_≡_, refl, ap, sym, _∙_}
 use mathlib.Core.Bool.{true, false}

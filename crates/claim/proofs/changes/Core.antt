@@ -1,4 +1,4 @@
--- Steps (2) to (7) of a guarded change: flash selects leave DLL1, the core goes to HXT48, DLL1 is set anew, and both come back. Assumes nothing.
+-- Steps (2) to (7) of a guarded change: flash selects leave DLL1, the core goes to HXT48, DLL1 is set anew, and both come back.
 use Prim.Native.Nat.{ℕ, zero, suc, _≤_}
 use mathlib.Core.Path.{_≡_, refl, _∙_, subst}
 use mathlib.Core.Bool.{Bool, true, false, cond, _&&_, _||_}

@@ -1,4 +1,4 @@
--- Where a guarded change has come: every moment so far is fit, and what holds of the registers now. Assumes nothing.
+-- Where a guarded change has come: every moment so far is fit, and what holds of the registers now.
 use Prim.Native.Nat.{ℕ, _<_}
 use mathlib.Core.Path.{_≡_, refl, ap, sym, _∙_, subst}
 use mathlib.Core.Bool.{Bool, true, false, false≢true, cond, _&&_, _||_}

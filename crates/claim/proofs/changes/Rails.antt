@@ -1,4 +1,4 @@
--- Laws of the rail limit, while buck and ldo go up to a row and down to one. Assumes nothing.
+-- Laws of the rail limit, while buck and ldo go up to a row and down to one.
 use Prim.Native.Nat.{ℕ, _<_, _≤_}
 use mathlib.Core.Path.{_≡_, refl}
 use mathlib.Core.Bool.{Bool, true, false, cond, _&&_}

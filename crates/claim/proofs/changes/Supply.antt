@@ -1,4 +1,4 @@
--- Steps (1) and (8) of a guarded change: the supply goes up to the peak's row, and down to the target's. Assumes nothing.
+-- Steps (1) and (8) of a guarded change: the supply goes up to the peak's row, and down to the target's.
 use Prim.Native.Nat.{ℕ, _<_, _≤_}
 use mathlib.Core.Path.{_≡_, refl}
 use mathlib.Core.Bool.{true}

@@ -1,4 +1,4 @@
--- A fit head, by what its registers hold. Assumes nothing.
+-- A fit head, by what its registers hold.
 use Prim.Native.Nat.{ℕ, _<_, _≤_}
 use mathlib.Core.Path.{_≡_, refl, fun-ext}
 use mathlib.Core.Bool.{Bool, true, false, cond, _&&_}

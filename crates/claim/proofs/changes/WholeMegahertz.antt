@@ -1,4 +1,4 @@
--- Truncated MHz against Hz: no HCLK lies strictly between a mode's limit and the next whole MHz. Assumes nothing.
+-- Truncated MHz against Hz: no HCLK lies strictly between a mode's limit and the next whole MHz.
 use Prim.Native.Nat.{ℕ, zero, suc, _/_, _<_, _≤_}
 use mathlib.Core.Path.{_≡_, refl, ap, subst}
 use mathlib.Core.Bool.{Bool, true, false, cond, _&&_}

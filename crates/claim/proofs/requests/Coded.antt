@@ -1,4 +1,4 @@
--- Runs whose registers keep to their codes at every moment, and whose heads differ in the registers alone. Assumes nothing.
+-- Runs whose registers keep to their codes at every moment, and whose heads differ in the registers alone.
 use Prim.Native.Nat.{ℕ, _<_}
 use mathlib.Core.Path.{_≡_, refl, ap, sym, subst}
 use mathlib.Core.Bool.{Bool, true, false, cond}

@@ -1,4 +1,4 @@
--- From a fit head every moment of an LPSYS request is fit. Assumes nothing.
+-- From a fit head every moment of an LPSYS request is fit.
 use Prim.Native.Nat.{ℕ, zero, suc, _≤_}
 use mathlib.Core.Path.{_≡_, refl, _∙_}
 use mathlib.Core.Bool.{Bool, true, false, false≢true, cond, _&&_, _||_}

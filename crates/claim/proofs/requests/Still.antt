@@ -1,4 +1,4 @@
--- An LPSYS request stores registers from 26 on alone, each within its codes, takes no answer, and comes to its end where HCLK reads. Assumes nothing.
+-- An LPSYS request stores registers from 26 on alone, each within its codes, takes no answer, and comes to its end where HCLK reads.
 use Prim.Native.Nat.{ℕ, _≤_, _<_}
 use mathlib.Core.Path.{_≡_, refl, ap, _∙_}
 use mathlib.Core.Bool.{true}

@@ -1,4 +1,4 @@
--- `clock::divide` meets its contract: the test on 0 picks the case of `divided`. Assumes nothing.
+-- `clock::divide` meets its contract: the test on 0 picks the case of `divided`.
 use borrow.Author.Tests.{eq-eqb, ne-eqb}
 use Rattle.clock.specs.Clock.{divided}
 use borrow.Author.Needs.{needs}

@@ -1,4 +1,4 @@
--- `clock::prescale` meets its contract: shifting out all 32 bits leaves 0, as dividing by so high a power does. Assumes nothing.
+-- `clock::prescale` meets its contract: shifting out all 32 bits leaves 0, as dividing by so high a power does.
 use native.Mathlib.Omega.{arith}
 use Prim.Native.Nat.{_^_, _≤_, _<_}
 use mathlib.Core.Path.{sym}

@@ -1,4 +1,4 @@
--- `clock_config::calibrate_hrc48` meets its contract: the shared tests, 31, then the calibration. Assumes nothing.
+-- `clock_config::calibrate_hrc48` meets its contract: the shared tests, 31, then the calibration.
 use native.Mathlib.Omega.{arith}
 use mathlib.Core.Path.{_≡_, sym, ap, _∙_}
 use mathlib.Core.Bool.{true, false}

@@ -1,4 +1,4 @@
--- `clock_config::init` meets its contract: the shared tests, the plan's, then the run. Assumes nothing.
+-- `clock_config::init` meets its contract: the shared tests, the plan's, then the run.
 use native.Mathlib.Omega.{arith}
 use mathlib.Core.Path.{refl, _∙_}
 use Rattle.head.specs.declared.Head.{Head}

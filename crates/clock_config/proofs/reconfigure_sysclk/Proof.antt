@@ -1,4 +1,4 @@
--- `clock_config::reconfigure_sysclk` meets its contract: the shared tests, the plan's, then the transition. Assumes nothing.
+-- `clock_config::reconfigure_sysclk` meets its contract: the shared tests, the plan's, then the transition.
 use native.Mathlib.Omega.{arith}
 use mathlib.Core.Path.{ap}
 use Rattle.head.specs.declared.Head.{Head}

@@ -1,4 +1,4 @@
--- `clock_init::boot` meets its contract: one step after the other, with the warning of the first. Assumes nothing.
+-- `clock_init::boot` meets its contract: one step after the other, with the warning of the first.
 use Rattle.clock_init.specs.Init.{boot}
 use Rattle.journal.proofs.Does.{_then_}
 use borrow.Author.Needs.{needs}

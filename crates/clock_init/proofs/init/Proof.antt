@@ -1,4 +1,4 @@
--- `clock_init::init` meets its contract: the boot mode picks the case. Assumes nothing.
+-- `clock_init::init` meets its contract: the boot mode picks the case.
 use native.Mathlib.Omega.{arith}
 use mathlib.Core.Path.{sym, ap, _∙_}
 use lib.Dec.{eqb}

@@ -1,4 +1,4 @@
--- `clock_lpsys::ensure_hxt48_ready` meets its contract: the shared tests, then the effect. Assumes nothing.
+-- `clock_lpsys::ensure_hxt48_ready` meets its contract: the shared tests, then the effect.
 use native.Mathlib.Omega.{arith}
 use mathlib.Core.List.{[]}
 use Rattle.record.proofs.Refusals.{no-test}

@@ -1,4 +1,4 @@
--- A source fits the register that selects it. Assumes nothing.
+-- A source fits the register that selects it.
 use Prim.Native.Nat.{ℕ, zero, suc, _≤_}
 use mathlib.Core.Path.{_≡_}
 use mathlib.Core.Bool.{true}

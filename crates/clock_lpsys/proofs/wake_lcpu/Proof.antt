@@ -1,4 +1,4 @@
--- `clock_lpsys::wake_lcpu` meets its contract: the shared tests, then the effect. Assumes nothing.
+-- `clock_lpsys::wake_lcpu` meets its contract: the shared tests, then the effect.
 use native.Mathlib.Omega.{arith}
 use mathlib.Core.List.{[]}
 use Rattle.record.proofs.Refusals.{no-test}

@@ -1,4 +1,4 @@
--- `clock_read::divide` meets its contract: each arm is a case of `dividedReading`. Assumes nothing.
+-- `clock_read::divide` meets its contract: each arm is a case of `dividedReading`.
 use Rattle.time.proofs.Equal.{hertz-is}
 use borrow.Author.Needs.{needs}
 use Rattle.clock_read.proofs.divide.Statement.{statement}

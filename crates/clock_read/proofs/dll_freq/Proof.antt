@@ -1,4 +1,4 @@
--- `clock_read::dll_freq` meets its contract. Assumes nothing.
+-- `clock_read::dll_freq` meets its contract.
 use borrow.Author.Tests.{eq-eqb, ne-eqb}
 use Rattle.time.proofs.Equal.{hertz-is}
 use Rattle.clock_read.specs.Hpsys.{dllReading}

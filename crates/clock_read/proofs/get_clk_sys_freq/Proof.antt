@@ -1,4 +1,4 @@
--- `clock_read::get_clk_sys_freq` meets its contract: the select picks the case of `sysOf`. Assumes nothing.
+-- `clock_read::get_clk_sys_freq` meets its contract: the select picks the case of `sysOf`.
 use borrow.Author.Tests.{eq-eqb, ne-eqb}
 use Rattle.clock_read.specs.Hpsys.{sysOf}
 use Rattle.clock_read.proofs.Codes.{dll1-stage}

@@ -1,4 +1,4 @@
--- `clock_read::get_hclk_freq` meets its contract. Assumes nothing.
+-- `clock_read::get_hclk_freq` meets its contract.
 use Rattle.clock_read.specs.Hpsys.{hclkOf}
 use borrow.Author.Needs.{needs}
 use Rattle.clock_read.proofs.get_hclk_freq.Statement.{statement}

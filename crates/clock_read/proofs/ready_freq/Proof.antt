@@ -1,4 +1,4 @@
--- `clock_read::ready_freq` meets its contract. Assumes nothing.
+-- `clock_read::ready_freq` meets its contract.
 use borrow.Author.Needs.{needs}
 use Rattle.clock_read.proofs.ready_freq.Statement.{statement}
 use Rattle.clock_read.proofs.ready_freq.Tie as tie

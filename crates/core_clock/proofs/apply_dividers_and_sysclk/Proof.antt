@@ -1,4 +1,4 @@
--- `core_clock::apply_dividers_and_sysclk` meets its contract: one store after the other. Assumes nothing.
+-- `core_clock::apply_dividers_and_sysclk` meets its contract: one store after the other.
 use Rattle.core_clock.specs.CoreClock.{dividersAndSysclk}
 use Rattle.core_clock.proofs.dividers.Fits.{sys-fits}
 use Rattle.journal.proofs.Does.{_then_}

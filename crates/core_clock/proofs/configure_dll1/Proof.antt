@@ -1,4 +1,4 @@
--- `core_clock::configure_dll1` meets its contract: the plan has DLL1 or has not. Assumes nothing.
+-- `core_clock::configure_dll1` meets its contract: the plan has DLL1 or has not.
 use native.Mathlib.Omega.{arith}
 use Rattle.plan.specs.Code.{stageOf}
 use Rattle.journal.proofs.Does.{does-nothing}

@@ -1,4 +1,4 @@
--- What a legal plan stores in the registers of the core's select and dividers fits them. Assumes nothing.
+-- What a legal plan stores in the registers of the core's select and dividers fits them.
 use Prim.Native.Nat.{ℕ, zero, suc, _≤_}
 use mathlib.Core.Path.{_≡_, refl}
 use mathlib.Core.Bool.{true}

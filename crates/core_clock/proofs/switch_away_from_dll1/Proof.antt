@@ -1,4 +1,4 @@
--- `core_clock::switch_away_from_dll1` meets its contract: the tests pick the case of `switchAway`. Assumes nothing.
+-- `core_clock::switch_away_from_dll1` meets its contract: the tests pick the case of `switchAway`.
 use native.Mathlib.Omega.{arith}
 use mathlib.Core.Path.{refl}
 use mathlib.Core.Bool.{cond}

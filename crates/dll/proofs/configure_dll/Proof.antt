@@ -1,4 +1,4 @@
--- `dll::configure_dll` meets its contract: one step after the other. Assumes nothing.
+-- `dll::configure_dll` meets its contract: one step after the other.
 use native.Mathlib.Omega.{arith}
 use Rattle.dll.specs.Dll.{configureDll}
 use Rattle.journal.proofs.Does.{_then_, lent-after}

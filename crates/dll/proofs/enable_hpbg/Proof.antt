@@ -1,4 +1,4 @@
--- `dll::enable_hpbg` meets its contract: the test picks the case of `hpbgOn`. Assumes nothing.
+-- `dll::enable_hpbg` meets its contract: the test picks the case of `hpbgOn`.
 use mathlib.Core.Path.{refl}
 use borrow.Author.Tests.{eq-eqb, ne-eqb}
 use lib.Dec.{eqb}

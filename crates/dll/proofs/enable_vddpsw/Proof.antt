@@ -1,4 +1,4 @@
--- `dll::enable_vddpsw` meets its contract: the test picks the case of `vddpswOn`. Assumes nothing.
+-- `dll::enable_vddpsw` meets its contract: the test picks the case of `vddpswOn`.
 use mathlib.Core.Path.{refl}
 use borrow.Author.Tests.{eq-eqb, ne-eqb}
 use lib.Dec.{eqb}

@@ -1,4 +1,4 @@
--- `dll::relock` meets its contract: the two words are stored one after the other. Assumes nothing.
+-- `dll::relock` meets its contract: the two words are stored one after the other.
 use Rattle.head.specs.declared.Head.{Head}
 use Rattle.register.specs.Word.{wordOf, byteB, byteC}
 use Rattle.clock_read.specs.Hpsys.{reg}

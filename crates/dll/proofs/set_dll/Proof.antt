@@ -1,4 +1,4 @@
--- `dll::set_dll` meets its contract: one step after the other. Assumes nothing.
+-- `dll::set_dll` meets its contract: one step after the other.
 use Rattle.dll.specs.Dll.{setDll}
 use Rattle.journal.proofs.Does.{_then_}
 use borrow.Author.Needs.{needs}

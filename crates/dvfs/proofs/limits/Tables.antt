@@ -1,4 +1,4 @@
--- The table of the code, read at a mode's number, is the definition. Assumes nothing.
+-- The table of the code, read at a mode's number, is the definition.
 use mathlib.Core.Path.{_≡_, refl}
 use mathlib.Core.List.{List, [], _∷_}
 use lib.ListN.{getD}

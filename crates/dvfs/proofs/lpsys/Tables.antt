@@ -1,4 +1,4 @@
--- The table of the code, read at a mode's number, has the rows of the definitions. Assumes nothing.
+-- The table of the code, read at a mode's number, has the rows of the definitions.
 use mathlib.Core.Path.{_≡_, refl}
 use mathlib.Core.List.{List, [], _∷_}
 use lib.ListN.{getD}

@@ -1,4 +1,4 @@
--- `dvfs_hpsys::config_hcpu_dvfs_first` meets its contract: each test picks a case of `hpsysFirst`. Assumes nothing.
+-- `dvfs_hpsys::config_hcpu_dvfs_first` meets its contract: each test picks a case of `hpsysFirst`.
 use native.Mathlib.Omega.{arith}
 use mathlib.Core.Path.{_≡_, refl, sym, _∙_}
 use Rattle.dvfs_hpsys.specs.HpsysModes.{hpsysFirst}

@@ -1,4 +1,4 @@
--- `dvfs_hpsys::config_hcpu_dvfs_second` meets its contract: each test picks a case of `hpsysSecond`. Assumes nothing.
+-- `dvfs_hpsys::config_hcpu_dvfs_second` meets its contract: each test picks a case of `hpsysSecond`.
 use mathlib.Core.Path.{_≡_, refl, sym, _∙_}
 use Rattle.dvfs_hpsys.specs.HpsysModes.{hpsysSecond}
 use Rattle.journal.proofs.Does.{does-nothing}

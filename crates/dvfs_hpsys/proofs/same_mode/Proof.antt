@@ -1,4 +1,4 @@
--- `dvfs_hpsys::same_mode` meets its contract: the modes' numbers are compared. Assumes nothing.
+-- `dvfs_hpsys::same_mode` meets its contract: the modes' numbers are compared.
 use borrow.Author.Needs.{needs}
 use Rattle.dvfs_hpsys.proofs.same_mode.Statement.{statement}
 use Rattle.dvfs_hpsys.proofs.same_mode.Tie as tie

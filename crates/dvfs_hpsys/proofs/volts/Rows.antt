@@ -1,4 +1,4 @@
--- What the supply rows hold fits the registers that it is stored in. Assumes nothing.
+-- What the supply rows hold fits the registers that it is stored in.
 use mathlib.Core.Path.{_≡_, refl}
 use mathlib.Core.Bool.{true}
 use Rattle.record.specs.Bytes.{isWithin}

@@ -1,4 +1,4 @@
--- `dvfs_lpsys::config_lpsys_dvfs_first` meets its contract: each arm is a case of `lpsysFirst`. Assumes nothing.
+-- `dvfs_lpsys::config_lpsys_dvfs_first` meets its contract: each arm is a case of `lpsysFirst`.
 use native.Mathlib.Omega.{arith}
 use Rattle.journal.proofs.Does.{does-within, does-nothing}
 use borrow.Author.Needs.{needs}

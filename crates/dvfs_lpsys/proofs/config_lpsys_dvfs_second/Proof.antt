@@ -1,4 +1,4 @@
--- `dvfs_lpsys::config_lpsys_dvfs_second` meets its contract: each arm is a case of `lpsysSecond`. Assumes nothing.
+-- `dvfs_lpsys::config_lpsys_dvfs_second` meets its contract: each arm is a case of `lpsysSecond`.
 use Rattle.journal.proofs.Does.{does-nothing}
 use borrow.Author.Needs.{needs}
 use Rattle.dvfs_lpsys.proofs.config_lpsys_dvfs_second.Statement.{statement}

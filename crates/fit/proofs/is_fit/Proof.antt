@@ -1,4 +1,4 @@
--- `fit::is_fit` meets its contract: each test that led to a return decides its part of `fits`. Assumes nothing.
+-- `fit::is_fit` meets its contract: each test that led to a return decides its part of `fits`.
 use Prim.Native.Nat.{ℕ}
 use mathlib.Core.Path.{sym, ap, _∙_}
 use borrow.Author.Tests.{not-true, not-false}

@@ -1,4 +1,4 @@
--- `fit::is_lpsys_fit` meets its contract: the reading decides, then the supply. Assumes nothing.
+-- `fit::is_lpsys_fit` meets its contract: the reading decides, then the supply.
 use mathlib.Core.Path.{sym, _∙_}
 use native.Mathlib.Omega.{arith}
 use borrow.Author.Tests.{le-leb, lt-leb}

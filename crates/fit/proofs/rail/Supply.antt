@@ -1,4 +1,4 @@
--- The supply that register 12 names decides which rows count. Assumes nothing.
+-- The supply that register 12 names decides which rows count.
 use Prim.Native.Nat.{ℕ, zero, suc}
 use mathlib.Core.Path.{_≡_, refl}
 use mathlib.Core.Bool.{true, false}

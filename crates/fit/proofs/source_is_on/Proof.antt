@@ -1,4 +1,4 @@
--- `fit::source_is_on` meets its contract: the select decides. Assumes nothing.
+-- `fit::source_is_on` meets its contract: the select decides.
 use borrow.Author.Tests.{eq-eqb, ne-eqb}
 use Rattle.fit.specs.Fit.{sourceIsOn}
 use borrow.Author.Needs.{needs}

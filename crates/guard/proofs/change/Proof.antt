@@ -1,4 +1,4 @@
--- `guard::change` meets its contract: the shared tests, the plan's, its own, then the steps. Assumes nothing.
+-- `guard::change` meets its contract: the shared tests, the plan's, its own, then the steps.
 use native.Mathlib.Omega.{arith}
 use mathlib.Core.Path.{_≡_, ap}
 use Rattle.plan_clocks.specs.declared.Target.{Target}

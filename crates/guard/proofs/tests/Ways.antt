@@ -1,4 +1,4 @@
--- The tests of the guarded change, as far as they are passed. Assumes nothing.
+-- The tests of the guarded change, as far as they are passed.
 use mathlib.Core.Path.{_≡_}
 use mathlib.Core.Bool.{true, false}
 use Rattle.record.specs.Refusals.{firstOf}

@@ -1,4 +1,4 @@
--- `guard_change::change` meets its contract: the head gives the peak and the flash selects, then all steps. Assumes nothing.
+-- `guard_change::change` meets its contract: the head gives the peak and the flash selects, then all steps.
 use native.Mathlib.Omega.{arith}
 use mathlib.Core.Path.{_≡_, sym}
 use Rattle.head.specs.declared.Head.{Head}

@@ -1,4 +1,4 @@
--- `guard_change::steps` meets its contract: one half after the other. Assumes nothing.
+-- `guard_change::steps` meets its contract: one half after the other.
 use native.Mathlib.Omega.{arith}
 use Rattle.journal.proofs.Does.{_then_, lent-within}
 use borrow.Author.Needs.{needs}

@@ -1,4 +1,4 @@
--- `guard_change::steps1to4` meets its contract: one step after the other. Assumes nothing.
+-- `guard_change::steps1to4` meets its contract: one step after the other.
 use native.Mathlib.Omega.{arith}
 use Rattle.plan.proofs.Legal.{legal-stages}
 use Rattle.journal.proofs.Does.{_then_, lent-after}

@@ -1,4 +1,4 @@
--- `guard_change::steps5to8` meets its contract: one step after the other. Assumes nothing.
+-- `guard_change::steps5to8` meets its contract: one step after the other.
 use native.Mathlib.Omega.{arith}
 use Rattle.journal.proofs.Does.{_then_, lent-after}
 use borrow.Author.Needs.{needs}

@@ -1,4 +1,4 @@
--- `guard_steps::back_to` meets its contract: one was on DLL1 or none. Assumes nothing.
+-- `guard_steps::back_to` meets its contract: one was on DLL1 or none.
 use mathlib.Core.Path.{sym, _∙_}
 use Rattle.guard_steps.specs.Steps.{backTo}
 use Rattle.journal.proofs.Does.{does-nothing}

@@ -1,4 +1,4 @@
--- Flash selects moved away from DLL1 fit their register. Assumes nothing.
+-- Flash selects moved away from DLL1 fit their register.
 use Prim.Native.Nat.{ℕ, _≤_}
 use mathlib.Core.Path.{_≡_}
 use mathlib.Core.Bool.{Bool, true, false, cond}

@@ -1,4 +1,4 @@
--- `guard_steps::leave_dll1` meets its contract: one is on DLL1 or none. Assumes nothing.
+-- `guard_steps::leave_dll1` meets its contract: one is on DLL1 or none.
 use native.Mathlib.Omega.{arith}
 use mathlib.Core.Path.{sym, _∙_}
 use Rattle.guard_steps.specs.Steps.{leaveDll1On, leaveDll1}

@@ -1,4 +1,4 @@
--- The steps of the supply by the number of their mode: those below 2 are on D. Assumes nothing.
+-- The steps of the supply by the number of their mode: those below 2 are on D.
 use Prim.Native.Nat.{_<_, _≤_}
 use mathlib.Core.Path.{_≡_, refl}
 use native.Mathlib.Omega.{arith}

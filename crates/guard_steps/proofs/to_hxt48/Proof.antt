@@ -1,4 +1,4 @@
--- `guard_steps::to_hxt48` meets its contract: the core is there or goes there. Assumes nothing.
+-- `guard_steps::to_hxt48` meets its contract: the core is there or goes there.
 use native.Mathlib.Omega.{arith}
 use borrow.Author.Tests.{eq-eqb, ne-eqb}
 use Rattle.core_clock.proofs.dividers.Fits.{select-fits}

@@ -1,4 +1,4 @@
--- `guard_steps::to_planned` meets its contract: one store. Assumes nothing.
+-- `guard_steps::to_planned` meets its contract: one store.
 use Rattle.core_clock.proofs.dividers.Fits.{sys-fits}
 use Rattle.guard_steps.specs.Steps.{toPlanned}
 use borrow.Author.Needs.{needs}

@@ -1,4 +1,4 @@
--- What a caller of `decode` knows of the head. Assumes nothing.
+-- What a caller of `decode` knows of the head.
 use Prim.Native.Nat.{ℕ}
 use mathlib.Core.Path.{_≡_, sym, _∙_}
 use mathlib.Core.List.{List}

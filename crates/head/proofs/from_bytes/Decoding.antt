@@ -1,4 +1,4 @@
--- What is decoded is encodable, and encoding it gives the record back. Assumes nothing.
+-- What is decoded is encodable, and encoding it gives the record back.
 use Prim.Native.Nat.{ℕ, zero, suc, _+_, _*_, _-_, _/_, _%_, _≤_, _<_}
 use mathlib.Core.Path.{_≡_, refl, ap, sym, _∙_}
 use mathlib.Core.Bool.{true}

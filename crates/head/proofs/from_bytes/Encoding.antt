@@ -1,4 +1,4 @@
--- Decoding what was encoded gives the head back. Assumes nothing.
+-- Decoding what was encoded gives the head back.
 use Prim.Native.Nat.{ℕ, suc, _+_, _*_, _-_, _<_}
 use mathlib.Core.Path.{_≡_, refl, ap, sym, _∙_}
 use mathlib.Core.Bool.{Bool, true, false}

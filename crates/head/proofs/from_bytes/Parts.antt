@@ -1,4 +1,4 @@
--- Laws of the parts of a record. Assumes nothing.
+-- Laws of the parts of a record.
 use Prim.Native.Nat.{ℕ, _+_, _*_, _≤_}
 use mathlib.Core.Path.{_≡_, refl, ap, _∙_}
 use mathlib.Core.List.{List, _++_, append-assoc}

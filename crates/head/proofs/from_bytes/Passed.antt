@@ -1,4 +1,4 @@
--- What holds of bytes that are not refused. Assumes nothing.
+-- What holds of bytes that are not refused.
 use Prim.Native.Nat.{ℕ, _≤_}
 use mathlib.Core.Path.{_≡_, refl}
 use mathlib.Core.Bool.{Bool, true, false, not, _&&_}

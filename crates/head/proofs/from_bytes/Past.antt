@@ -1,4 +1,4 @@
--- Bytes past the record matter to no answer. Assumes nothing.
+-- Bytes past the record matter to no answer.
 use Prim.Native.Nat.{ℕ, _+_, _*_, _<_}
 use mathlib.Core.Path.{_≡_, ap, sym, _∙_}
 use mathlib.Core.List.{List, _∷_}

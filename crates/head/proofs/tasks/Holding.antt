@@ -1,4 +1,4 @@
--- Heads that hold other tasks: what they hold, and that they still have a record. Assumes nothing.
+-- Heads that hold other tasks: what they hold, and that they still have a record.
 use Prim.Native.Nat.{ℕ, zero, suc, _+_, _-_, _≤_, _<_}
 use mathlib.Core.Path.{_≡_, refl, ap, sym, _∙_}
 use mathlib.Core.Bool.{true}

@@ -1,4 +1,4 @@
--- What holds of tasks still holds with one more at the end, and with one less; so the head still has a record. Assumes nothing.
+-- What holds of tasks still holds with one more at the end, and with one less; so the head still has a record.
 use Prim.Native.Nat.{ℕ, zero, suc, _+_, _≤_, _<_}
 use mathlib.Core.Path.{_≡_, refl, ap, sym, _∙_}
 use mathlib.Core.Bool.{Bool, true, false, false≢true, not, _&&_, _||_}

@@ -1,4 +1,4 @@
--- A list with the element at a place taken out, the later ones moved up, and a loop that moves them. Assumes nothing.
+-- A list with the element at a place taken out, the later ones moved up, and a loop that moves them.
 use Prim.Native.Nat.{ℕ, suc, _+_, _-_, _≤_, _<_}
 use mathlib.Core.Path.{_≡_, refl, ap, sym, _∙_}
 use mathlib.Core.List.{List, [], _∷_, _++_}

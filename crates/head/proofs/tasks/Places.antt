@@ -1,4 +1,4 @@
--- The place of a task with an id, and the tasks without it. Assumes nothing.
+-- The place of a task with an id, and the tasks without it.
 use Prim.Native.Nat.{ℕ, suc, _+_, _-_, _≤_, _<_}
 use mathlib.Core.Path.{_≡_, refl, ap, sym, _∙_}
 use mathlib.Core.Bool.{Bool, true, false, false≢true}

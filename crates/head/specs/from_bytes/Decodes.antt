@@ -1,4 +1,4 @@
--- What decoding answers. Assumes nothing.
+-- What decoding answers.
 use Prim.Native.Nat.{ℕ}
 use mathlib.Core.Path.{_≡_}
 use mathlib.Core.Bool.{cond}

@@ -1,4 +1,4 @@
--- `init_first::boot_stores` meets its contract: one store after the other. Assumes nothing.
+-- `init_first::boot_stores` meets its contract: one store after the other.
 use Rattle.init_first.specs.First.{bootStores}
 use Rattle.init_first.proofs.Fits.{low-power-fits, lrc32-fits, buffer-fits}
 use Rattle.journal.proofs.Does.{_then_}

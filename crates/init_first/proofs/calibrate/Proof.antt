@@ -1,4 +1,4 @@
--- `init_first::calibrate` meets its contract: the flag picks the case. Assumes nothing.
+-- `init_first::calibrate` meets its contract: the flag picks the case.
 use Rattle.init_first.specs.First.{calibrating}
 use Rattle.journal.proofs.Does.{_then_, does-nothing}
 use borrow.Author.Needs.{needs}

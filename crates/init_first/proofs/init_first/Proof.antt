@@ -1,4 +1,4 @@
--- `init_first::init_first` meets its contract: one step after the other, and the warning is that of the second. Assumes nothing.
+-- `init_first::init_first` meets its contract: one step after the other, and the warning is that of the second.
 use mathlib.Core.Path.{ap, _∙_}
 use Rattle.journal.specs.declared.Machine.{Machine}
 use Rattle.init_first.specs.warning.{warning}

@@ -1,4 +1,4 @@
--- `init_first::leave_hrc48` meets its contract: the tests pick the case. Assumes nothing.
+-- `init_first::leave_hrc48` meets its contract: the tests pick the case.
 use native.Mathlib.Omega.{arith}
 use borrow.Author.Tests.{eq-eqb, ne-eqb}
 use Rattle.init_first.specs.First.{leaveHrc48On, leaveHrc48}

@@ -1,4 +1,4 @@
--- `init_rest::configure_dll2` meets its contract: the plan has DLL2 or has not. Assumes nothing.
+-- `init_rest::configure_dll2` meets its contract: the plan has DLL2 or has not.
 use Rattle.journal.proofs.Does.{does-nothing}
 use borrow.Author.Needs.{needs}
 use Rattle.init_rest.proofs.configure_dll2.Statement.{statement}

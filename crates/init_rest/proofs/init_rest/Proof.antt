@@ -1,4 +1,4 @@
--- `init_rest::init_rest` meets its contract: one step after the other. Assumes nothing.
+-- `init_rest::init_rest` meets its contract: one step after the other.
 use Rattle.plan.proofs.Legal.{legal-stages}
 use Rattle.init_rest.specs.Rest.{initRest}
 use Rattle.journal.proofs.Does.{_then_}

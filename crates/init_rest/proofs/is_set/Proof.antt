@@ -1,4 +1,4 @@
--- `init_rest::is_set` meets its contract: the tests in their order. Assumes nothing.
+-- `init_rest::is_set` meets its contract: the tests in their order.
 use borrow.Author.Tests.{eq-eqb, ne-eqb}
 use Rattle.init_rest.specs.Rest.{isSet}
 use borrow.Author.Needs.{needs}

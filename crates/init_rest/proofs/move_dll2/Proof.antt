@@ -1,4 +1,4 @@
--- `init_rest::move_dll2` meets its contract: one step after the other. Assumes nothing.
+-- `init_rest::move_dll2` meets its contract: one step after the other.
 use native.Mathlib.Omega.{arith}
 use Rattle.register.proofs.Fits.{zero-fits}
 use Rattle.init_rest.specs.Rest.{moveDll2}

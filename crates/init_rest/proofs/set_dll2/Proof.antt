@@ -1,4 +1,4 @@
--- `init_rest::set_dll2` meets its contract: the test picks the case. Assumes nothing.
+-- `init_rest::set_dll2` meets its contract: the test picks the case.
 use mathlib.Core.Path.{sym, _∙_}
 use Rattle.init_rest.specs.Rest.{setDll2On, setDll2}
 use Rattle.journal.proofs.Does.{by-head, does-nothing}

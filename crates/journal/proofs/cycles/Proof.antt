@@ -1,4 +1,4 @@
--- `journal::cycles` meets its contract: a millisecond at 384 MHz is 384,000 cycles. Assumes nothing.
+-- `journal::cycles` meets its contract: a millisecond at 384 MHz is 384,000 cycles.
 use native.Mathlib.Omega.{arith}
 use mathlib.Core.Path.{refl}
 use Rattle.journal.proofs.Delays.{product-most, cycles-most}

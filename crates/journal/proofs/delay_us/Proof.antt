@@ -1,4 +1,4 @@
--- `journal::delay_us` meets its contract: the cycles where HCLK reads, 34 where it does not. Assumes nothing.
+-- `journal::delay_us` meets its contract: the cycles where HCLK reads, 34 where it does not.
 use native.Mathlib.Omega.{arith}
 use mathlib.Core.Path.{sym, subst, _∙_}
 use Rattle.clock_read.proofs.Most.{Most, most-at, most-hclk}

@@ -1,4 +1,4 @@
--- `limits::dll1_core_too_slow` meets its contract. Assumes nothing.
+-- `limits::dll1_core_too_slow` meets its contract.
 use borrow.Author.Tests.{eq-eqb, ne-eqb}
 use Rattle.limits.specs.Limits.{dll1CoreTooSlow}
 use Rattle.limits.proofs.dll1_core_too_slow.Statement.{statement}

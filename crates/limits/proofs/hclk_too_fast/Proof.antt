@@ -1,4 +1,4 @@
--- `limits::hclk_too_fast` meets its contract. Assumes nothing.
+-- `limits::hclk_too_fast` meets its contract.
 use mathlib.Core.Path.{refl}
 use Rattle.limits.specs.Limits.{hclkTooFast}
 use Rattle.limits.proofs.hclk_too_fast.Statement.{statement}

@@ -1,4 +1,4 @@
--- `limits::usb_not_60` meets its contract. Assumes nothing.
+-- `limits::usb_not_60` meets its contract.
 use borrow.Author.Tests.{not-true, not-false}
 use Rattle.limits.specs.Limits.{usbNot60}
 use Rattle.limits.proofs.usb_not_60.Statement.{statement}

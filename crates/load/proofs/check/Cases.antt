@@ -1,4 +1,4 @@
--- What the load check answers, case by case. Assumes nothing.
+-- What the load check answers, case by case.
 use Prim.Native.Nat.{ℕ, _/_, _%_}
 use mathlib.Core.Path.{_≡_, _∙_}
 use mathlib.Core.Bool.{true, false}

@@ -1,4 +1,4 @@
--- The top bit of the load check's word tells a refusal from a load. Assumes nothing.
+-- The top bit of the load check's word tells a refusal from a load.
 use Prim.Native.Nat.{ℕ, _+_, _*_, _/_, _<_, _≤_, _^_}
 use mathlib.Core.Path.{_≡_, refl, sym, ap, _∙_}
 use mathlib.Core.List.{List}

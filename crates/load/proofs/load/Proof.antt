@@ -1,7 +1,7 @@
 -- `load::load` meets its contract: a walk of its MIR, by hand. The array lies in a local's memory; its first elements are lent as
 -- a `&[Task]` for a lifetime that is made for the call, and the local is taken back after it (`LendArray.antt`). All that the
 -- proof knows of `total` is that it meets its contract. What an array of tasks owns are facts, so it is made where it is asked
--- for, and nothing is kept of the parameters (`stay-dropped`). Assumes nothing.
+-- for, and nothing is kept of the parameters (`stay-dropped`).
 use mathlib.Core.Path.{_≡_, refl, sym, subst}
 use Prim.Native.Nat.{ℕ, _<_, _≤_, _^_}
 use native.Mathlib.Omega.{arith}

@@ -1,4 +1,4 @@
--- `load::share` meets its contract: the test says which case of `shareOf` holds. Assumes nothing.
+-- `load::share` meets its contract: the test says which case of `shareOf` holds.
 use borrow.Author.Needs.{needs}
 use borrow.Author.Tests.{eq-eqb, ne-eqb}
 use Rattle.load.specs.Load.{shareOf}

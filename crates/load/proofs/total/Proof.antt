@@ -6,7 +6,6 @@
 --     ends         the last statements, which run after the loop
 --     turns        a turn from `At x`: it adds one share, or it leaves the loop
 --     walk         the MIR up to the loop, and the loop by `Types/Run.antt`'s `loops`
--- Assumes nothing.
 use mathlib.Core.Path.{_≡_, refl, sym, _∙_, ap}
 use Prim.Native.Nat.{ℕ, _+_, _-_, _*_, _<_, _≤_, _^_}
 use native.Mathlib.Omega.{arith}

@@ -1,4 +1,4 @@
--- `lpset::set` meets its contract: the entries lie in the journal. Assumes nothing.
+-- `lpset::set` meets its contract: the entries lie in the journal.
 use mathlib.Core.Path.{sym}
 use lib.Seq.{length-take-le}
 use Rattle.lpset.proofs.Entries.{entries-within}

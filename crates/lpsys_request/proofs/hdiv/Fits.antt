@@ -1,4 +1,4 @@
--- A divider stored fits its register. Assumes nothing.
+-- A divider stored fits its register.
 use Prim.Native.Nat.{ℕ, _≤_, _<_}
 use mathlib.Core.Path.{_≡_}
 use mathlib.Core.Bool.{true}

@@ -1,4 +1,4 @@
--- The source and the divider of an LPSYS request. Assumes nothing.
+-- The source and the divider of an LPSYS request.
 use Prim.Native.Nat.{ℕ, _*_, _/_, _≤_}
 use mathlib.Core.Path.{_≡_, refl}
 use mathlib.Core.Bool.{Bool, true, false, cond}

@@ -1,4 +1,4 @@
--- The mode of a request, by its frequency. Assumes nothing.
+-- The mode of a request, by its frequency.
 use Prim.Native.Nat.{ℕ, _≤_, _<_}
 use mathlib.Core.Path.{_≡_}
 use borrow.Author.Tests.{le-leb, lt-leb}

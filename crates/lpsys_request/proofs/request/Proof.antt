@@ -1,4 +1,4 @@
--- `lpsys_request::request` meets its contract: the transition's halves round the divider. Assumes nothing.
+-- `lpsys_request::request` meets its contract: the transition's halves round the divider.
 use native.Mathlib.Omega.{arith}
 use Rattle.journal.proofs.Does.{_then_, by-head, lent-after}
 use Rattle.lpsys_request.specs.Request.{requestOn, request}

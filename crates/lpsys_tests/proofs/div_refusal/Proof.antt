@@ -1,4 +1,4 @@
--- `lpsys_tests::div_refusal` meets its contract: the tests pick the case. Assumes nothing.
+-- `lpsys_tests::div_refusal` meets its contract: the tests pick the case.
 use native.Mathlib.Omega.{arith}
 use borrow.Author.Tests.{lt-ltb, le-ltb}
 use Rattle.lpsys_tests.proofs.div_refusal.Statement.{statement}

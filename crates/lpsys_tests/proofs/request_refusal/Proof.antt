@@ -1,4 +1,4 @@
--- `lpsys_tests::request_refusal` meets its contract: the tests pick the case. Assumes nothing.
+-- `lpsys_tests::request_refusal` meets its contract: the tests pick the case.
 use native.Mathlib.Omega.{arith}
 use borrow.Author.Tests.{eq-eqb, ne-eqb, lt-ltb, le-ltb}
 use Rattle.lpsys_tests.proofs.request_refusal.Statement.{statement}

@@ -1,4 +1,4 @@
--- `lpsys_tests::source_refusal` meets its contract: the test picks the case. Assumes nothing.
+-- `lpsys_tests::source_refusal` meets its contract: the test picks the case.
 use native.Mathlib.Omega.{arith}
 use borrow.Author.Tests.{lt-ltb, le-ltb}
 use Rattle.lpsys_tests.proofs.source_refusal.Statement.{statement}

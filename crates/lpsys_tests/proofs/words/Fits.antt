@@ -1,4 +1,4 @@
--- What a setter of a divider stores fits its register. Assumes nothing.
+-- What a setter of a divider stores fits its register.
 use Prim.Native.Nat.{ℕ, _<_}
 use mathlib.Core.Path.{_≡_}
 use mathlib.Core.Bool.{true}

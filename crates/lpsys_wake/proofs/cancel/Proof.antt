@@ -1,4 +1,4 @@
--- `lpsys_wake::cancel` meets its contract: the request is cleared where the count was 1. Assumes nothing.
+-- `lpsys_wake::cancel` meets its contract: the request is cleared where the count was 1.
 use Rattle.record.specs.Bytes.{isWithin}
 use Rattle.register.specs.Word.{wordBytes}
 use Rattle.register.specs.Codes.{fitsRegister, largest}

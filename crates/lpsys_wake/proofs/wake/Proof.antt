@@ -1,4 +1,4 @@
--- `lpsys_wake::wake` meets its contract: one step after the other. Assumes nothing.
+-- `lpsys_wake::wake` meets its contract: one step after the other.
 use Rattle.journal.proofs.Does.{_then_, beside}
 use Rattle.lpsys_wake.specs.Wake.{wake}
 use borrow.Author.Needs.{needs}

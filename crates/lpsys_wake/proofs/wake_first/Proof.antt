@@ -1,4 +1,4 @@
--- `lpsys_wake::wake_first` meets its contract: one step after the other. Assumes nothing.
+-- `lpsys_wake::wake_first` meets its contract: one step after the other.
 use Rattle.record.specs.Bytes.{isWithin}
 use Rattle.register.specs.Word.{wordBytes}
 use Rattle.register.specs.Codes.{fitsRegister, largest}

@@ -1,4 +1,4 @@
--- `moments::change` meets its contract: the entries lie in the journal. Assumes nothing.
+-- `moments::change` meets its contract: the entries lie in the journal.
 use mathlib.Core.Path.{sym}
 use lib.Seq.{length-take-le}
 use Rattle.moments.proofs.Entries.{entries-within}

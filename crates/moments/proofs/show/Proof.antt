@@ -1,5 +1,5 @@
 -- `moments::show` meets its contract. The loop's invariant: `i` is at most the number of entries, and the buffer holds a head. The measure
--- is the rest of the entries. Assumes nothing.
+-- is the rest of the entries.
 use Prim.Native.Nat.{_-_, _≤_}
 use mathlib.Core.Path.{_≡_}
 use native.Mathlib.Omega.{arith}

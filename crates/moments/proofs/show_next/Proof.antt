@@ -1,4 +1,4 @@
--- `moments::show_next` meets its contract: a head that is not refused has a record. Assumes nothing.
+-- `moments::show_next` meets its contract: a head that is not refused has a record.
 use Rattle.call.proofs.Ending.{call-encodable}
 use borrow.Author.Needs.{needs}
 use Rattle.moments.proofs.show_next.Statement.{statement}

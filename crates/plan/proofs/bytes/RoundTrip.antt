@@ -1,4 +1,4 @@
--- Decoding and encoding undo each other. Assumes nothing.
+-- Decoding and encoding undo each other.
 use Prim.Native.Nat.{ℕ}
 use mathlib.Core.Path.{_≡_, refl, sym, ap, _∙_}
 use mathlib.Core.Bool.{Bool, true, false, cond, not, _&&_}

@@ -1,4 +1,4 @@
--- What the bytes of a decoded plan have. Assumes nothing.
+-- What the bytes of a decoded plan have.
 use Prim.Native.Nat.{ℕ}
 use mathlib.Core.Path.{_≡_, refl}
 use mathlib.Core.Bool.{Bool, true, false}

@@ -1,4 +1,4 @@
--- What the codes of a plan record say of its bytes, and the bytes of a flag and of a DLL back. Assumes nothing.
+-- What the codes of a plan record say of its bytes, and the bytes of a flag and of a DLL back.
 use Prim.Native.Nat.{ℕ, _+_, _≤_}
 use mathlib.Core.Path.{_≡_, refl, sym}
 use mathlib.Core.Bool.{Bool, true, false, _&&_, _||_}

@@ -1,4 +1,4 @@
--- `plan_clocks::dll_freq` meets its contract: each arm is a case of `maybeHz`. Assumes nothing.
+-- `plan_clocks::dll_freq` meets its contract: each arm is a case of `maybeHz`.
 use borrow.Author.Needs.{needs}
 use Rattle.plan_clocks.proofs.dll_freq.Statement.{statement}
 use Rattle.plan_clocks.proofs.dll_freq.Tie as tie

@@ -1,4 +1,4 @@
--- `plan_clocks::dll_whole_freq` meets its contract: each arm is a case of `maybeWholeHz`. Assumes nothing.
+-- `plan_clocks::dll_whole_freq` meets its contract: each arm is a case of `maybeWholeHz`.
 use native.Mathlib.Omega.{arith}
 use borrow.Author.Needs.{needs}
 use Rattle.plan_clocks.proofs.dll_whole_freq.Statement.{statement}

@@ -1,4 +1,4 @@
--- `plan_clocks::sources_of` meets its contract: each field is what its function ensures. Assumes nothing.
+-- `plan_clocks::sources_of` meets its contract: each field is what its function ensures.
 use Rattle.time.proofs.Equal.{hertz-is}
 use Rattle.plan_clocks.specs.Clocks.{sourcesOf}
 use borrow.Author.Needs.{needs}

@@ -1,4 +1,4 @@
--- `plan_clocks::sysclk` meets its contract: the select picks the case of `sysHz`. Assumes nothing.
+-- `plan_clocks::sysclk` meets its contract: the select picks the case of `sysHz`.
 use borrow.Author.Tests.{eq-eqb, ne-eqb, not-true, not-false}
 use Rattle.plan_clocks.specs.Clocks.{sysHz}
 use borrow.Author.Needs.{needs}

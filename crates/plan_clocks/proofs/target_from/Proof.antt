@@ -1,4 +1,4 @@
--- `plan_clocks::target_from` meets its contract: each field is what its function ensures. Assumes nothing.
+-- `plan_clocks::target_from` meets its contract: each field is what its function ensures.
 use Rattle.time.proofs.Equal.{hertz-is}
 use Rattle.plan_clocks.specs.Clocks.{sourcesOf, targetOf, hclkHz, pclk1Hz, pclk2Hz, usbDivider}
 use borrow.Author.Needs.{needs}

@@ -1,4 +1,4 @@
--- `plan_clocks::usb_divider` meets its contract. Assumes nothing.
+-- `plan_clocks::usb_divider` meets its contract.
 use borrow.Author.Tests.{not-true, not-false}
 use borrow.Author.Needs.{needs}
 use Rattle.plan_clocks.proofs.usb_divider.Statement.{statement}

@@ -1,4 +1,4 @@
--- `plan_clocks::usb_source` meets its contract: the source picks the case of `usbHz`. Assumes nothing.
+-- `plan_clocks::usb_source` meets its contract: the source picks the case of `usbHz`.
 use borrow.Author.Tests.{eq-eqb, ne-eqb}
 use Rattle.plan_clocks.specs.Clocks.{usbHz}
 use borrow.Author.Needs.{needs}

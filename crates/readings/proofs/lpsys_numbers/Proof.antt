@@ -1,4 +1,4 @@
--- `readings::lpsys_numbers` meets its contract: each number is what its getter ensures. Assumes nothing.
+-- `readings::lpsys_numbers` meets its contract: each number is what its getter ensures.
 use Rattle.readings.specs.Clocks.{lpsysOf}
 use borrow.Author.Needs.{needs}
 use Rattle.readings.proofs.lpsys_numbers.Statement.{statement}

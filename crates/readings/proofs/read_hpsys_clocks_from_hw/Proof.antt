@@ -1,4 +1,4 @@
--- `readings::read_hpsys_clocks_from_hw` meets its contract: each field is what its getter ensures. Assumes nothing.
+-- `readings::read_hpsys_clocks_from_hw` meets its contract: each field is what its getter ensures.
 use Rattle.readings.specs.Clocks.{clocksOf}
 use borrow.Author.Needs.{needs}
 use Rattle.readings.proofs.read_hpsys_clocks_from_hw.Statement.{statement}

@@ -1,4 +1,4 @@
--- `record::four_at` meets its contract: each byte lies at its place of the part that is read. Assumes nothing.
+-- `record::four_at` meets its contract: each byte lies at its place of the part that is read.
 use native.Mathlib.Nat.{add-zero}
 use lib.Seq.{getD-drop}
 use Rattle.record.specs.Four.{fourIn}

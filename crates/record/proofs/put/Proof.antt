@@ -1,4 +1,4 @@
--- `record::put` meets its contract. The loop's invariant: the bytes passed stand at their places, and all else is as it was. Assumes nothing.
+-- `record::put` meets its contract. The loop's invariant: the bytes passed stand at their places, and all else is as it was.
 use Prim.Native.Nat.{_+_, _-_, _≤_}
 use mathlib.Core.Path.{_≡_, sym, _∙_}
 use borrow.Author.Needs.{needs}

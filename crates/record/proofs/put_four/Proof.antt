@@ -1,4 +1,4 @@
--- `record::put_four` meets its contract: four stores in a row. Assumes nothing.
+-- `record::put_four` meets its contract: four stores in a row.
 use native.Mathlib.Omega.{arith}
 use native.Mathlib.Numerals.{add-one, add-two, add-three}
 use lib.ListN.{length-set}

@@ -1,4 +1,4 @@
--- `record::within` meets its contract. The loop's invariant: the answer is that of the bytes passed and of the rest. Assumes nothing.
+-- `record::within` meets its contract. The loop's invariant: the answer is that of the bytes passed and of the rest.
 use Prim.Native.Nat.{_+_, _-_, _≤_}
 use mathlib.Core.Path.{_≡_, refl, sym, _∙_}
 use mathlib.Core.Bool.{_&&_}

@@ -1,4 +1,4 @@
--- `recorded_answer::compare` meets its contract. Assumes nothing.
+-- `recorded_answer::compare` meets its contract.
 use borrow.Author.Tests.{not-false}
 use lib.Seq.{length-take-le}
 use native.Mathlib.Omega.{arith}

@@ -1,4 +1,4 @@
--- `recorded_answer::keeps` meets its contract. The loop's invariant: the words up to `i` are kept. Assumes nothing.
+-- `recorded_answer::keeps` meets its contract. The loop's invariant: the words up to `i` are kept.
 use Rattle.recorded_answer.proofs.Keeping.{keep-next}
 use Rattle.recorded_answer.specs.Answer.{unused}
 use borrow.Author.Needs.{needs}

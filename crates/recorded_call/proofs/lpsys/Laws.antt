@@ -1,4 +1,4 @@
--- What every call leaves: its entries lie in the journal. Assumes nothing.
+-- What every call leaves: its entries lie in the journal.
 use Prim.Native.Nat.{ℕ, _≤_}
 use mathlib.Core.List.{List}
 use lib.ListN.{length}

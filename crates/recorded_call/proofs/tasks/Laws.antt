@@ -1,4 +1,4 @@
--- What a booking and a release leave: their entries, which are none, lie in no journal. Assumes nothing.
+-- What a booking and a release leave: their entries, which are none, lie in no journal.
 use Prim.Native.Nat.{ℕ, _≤_}
 use mathlib.Core.List.{List, []}
 use lib.ListN.{length}

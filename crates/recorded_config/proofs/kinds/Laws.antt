@@ -1,4 +1,4 @@
--- No call is lent more clocks than there are. Assumes nothing.
+-- No call is lent more clocks than there are.
 use Prim.Native.Nat.{_≤_}
 use native.Mathlib.Omega.{arith}
 use Rattle.recorded_config.specs.declared.kinds.Call.{Call}

@@ -1,4 +1,4 @@
--- `recorded_config::run` meets its contract: each call is one of the enum. Assumes nothing.
+-- `recorded_config::run` meets its contract: each call is one of the enum.
 use mathlib.Core.Path.{refl}
 use borrow.Author.Needs.{needs}
 use Rattle.recorded_config.proofs.run.Statement.{statement}

@@ -1,4 +1,4 @@
--- `recorded_line::byte_at` meets its contract. Assumes nothing.
+-- `recorded_line::byte_at` meets its contract.
 use Rattle.recorded_line.proofs.Four.{past-end}
 use native.Mathlib.Omega.{arith}
 use borrow.Author.Needs.{needs}

@@ -1,4 +1,4 @@
--- `recorded_line::four_at` meets its contract: each byte lies at its place of the part that is read. Assumes nothing.
+-- `recorded_line::four_at` meets its contract: each byte lies at its place of the part that is read.
 use Rattle.recorded_line.proofs.Four.{four-at}
 use borrow.Author.Needs.{needs}
 use Rattle.recorded_line.proofs.four_at.Statement.{statement}

@@ -1,4 +1,4 @@
--- Answers from pairs of bytes, one after the other. Assumes nothing.
+-- Answers from pairs of bytes, one after the other.
 use Prim.Native.Nat.{ℕ, zero, suc, _+_, _*_, _/_, _<_}
 use mathlib.Core.Path.{_≡_, refl}
 use mathlib.Core.List.{List, [], _∷_, _++_}

@@ -1,4 +1,4 @@
--- What a reading leaves in a lent list, and two parts of a text that are known by equations. Assumes nothing.
+-- What a reading leaves in a lent list, and two parts of a text that are known by equations.
 use Prim.Native.Nat.{ℕ}
 use mathlib.Core.Path.{_≡_, refl}
 use mathlib.Core.Bool.{Bool, true, false, cond}

@@ -1,4 +1,4 @@
--- `rikkovan::rikkovan_read_clocks` meets its contract: the answer of `readings::read_clocks`, packed. Assumes nothing.
+-- `rikkovan::rikkovan_read_clocks` meets its contract: the answer of `readings::read_clocks`, packed.
 use borrow.Author.Needs.{needs}
 use Rattle.rikkovan.proofs.rikkovan_read_clocks.Statement.{statement}
 use Rattle.rikkovan.proofs.rikkovan_read_clocks.Tie as tie

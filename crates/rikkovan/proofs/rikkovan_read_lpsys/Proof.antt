@@ -1,4 +1,4 @@
--- `rikkovan::rikkovan_read_lpsys` meets its contract: the answer of `readings::read_lpsys`, packed. Assumes nothing.
+-- `rikkovan::rikkovan_read_lpsys` meets its contract: the answer of `readings::read_lpsys`, packed.
 use borrow.Author.Needs.{needs}
 use Rattle.rikkovan.proofs.rikkovan_read_lpsys.Statement.{statement}
 use Rattle.rikkovan.proofs.rikkovan_read_lpsys.Tie as tie

@@ -1,4 +1,4 @@
--- A task is read from its bytes as it was written. Assumes nothing.
+-- A task is read from its bytes as it was written.
 use Prim.Native.Nat.{ℕ, suc, _+_, _≤_, _<_}
 use mathlib.Core.Path.{_≡_, refl, ap, sym, _∙_}
 use mathlib.Core.List.{List, [], _∷_, _++_}

@@ -1,4 +1,4 @@
--- Laws of the places of tasks. Assumes nothing.
+-- Laws of the places of tasks.
 use Prim.Native.Nat.{ℕ, _-_}
 use mathlib.Core.Path.{_≡_}
 use mathlib.Core.List.{List}

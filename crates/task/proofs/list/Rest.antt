@@ -1,4 +1,4 @@
--- What a loop over the tasks in bytes goes by: the task at its place, and the rest of them. Assumes nothing.
+-- What a loop over the tasks in bytes goes by: the task at its place, and the rest of them.
 use Prim.Native.Nat.{ℕ, _+_, _*_, _≤_, _<_}
 use mathlib.Core.Path.{_≡_, ap, _∙_}
 use mathlib.Core.Bool.{true, false, not, _&&_, _||_}

@@ -1,5 +1,4 @@
 -- `text::put` meets its contract. The loop's invariant: the text keeps its length, the bytes fit, and the first of them stand from `at` on.
--- Assumes nothing.
 use lib.Seq.{take-all}
 use native.Mathlib.Omega.{arith}
 use Prim.Native.Nat.{_+_, _-_, _≤_}

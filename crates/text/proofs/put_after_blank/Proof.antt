@@ -1,4 +1,4 @@
--- `text::put_after_blank` meets its contract: two parts, one after the other. Assumes nothing.
+-- `text::put_after_blank` meets its contract: two parts, one after the other.
 use Rattle.text.proofs.Putting.{puts-then}
 use native.Mathlib.Omega.{arith}
 use borrow.Author.Needs.{needs}

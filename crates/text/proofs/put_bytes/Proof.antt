@@ -1,4 +1,4 @@
--- `text::put_bytes` meets its contract. The loop's invariant: the text keeps its length, and the first bytes stand in it. Assumes nothing.
+-- `text::put_bytes` meets its contract. The loop's invariant: the text keeps its length, and the first bytes stand in it.
 use Rattle.text.proofs.Putting.{puts-none}
 use Rattle.text.proofs.HexLaws.{field-none, puts-hex, puts-field}
 use Rattle.text.specs.Text.{Puts}

@@ -1,4 +1,4 @@
--- `text::put_number` meets its contract: the digits that are put are the fewest that hold the number. Assumes nothing.
+-- `text::put_number` meets its contract: the digits that are put are the fewest that hold the number.
 use Rattle.text.proofs.DecimalLaws.{decimal-is}
 use native.Mathlib.Omega.{arith}
 use mathlib.Core.Path.{_∙_}

@@ -1,4 +1,4 @@
--- `verdict::check_plan` meets its contract: a legal plan has a target, which is judged. Assumes nothing.
+-- `verdict::check_plan` meets its contract: a legal plan has a target, which is judged.
 use borrow.Author.Needs.{needs}
 use borrow.Author.Tests.{eq-eqb, ne-eqb}
 use Rattle.plan.proofs.Legal.{legal-stages}

@@ -1,4 +1,4 @@
--- What a decoded and judged plan is. Assumes nothing.
+-- What a decoded and judged plan is.
 use Prim.Native.Nat.{ℕ, _≤_}
 use mathlib.Core.Path.{_≡_, refl, sym, ap, _∙_}
 use mathlib.Core.Bool.{Bool, true, false, cond}

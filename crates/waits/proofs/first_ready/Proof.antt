@@ -1,5 +1,5 @@
 -- `waits::first_ready` meets its contract. The loop's invariant: the answers passed are not ready, so the first ready one is that of
--- the rest. Assumes nothing.
+-- the rest.
 use borrow.Author.Needs.{needs}
 use Prim.Native.Nat.{ℕ, _+_, _-_, _≤_}
 use lib.ListN.{length, drop}

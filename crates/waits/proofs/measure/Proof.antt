@@ -1,4 +1,4 @@
--- `waits::measure` meets its contract: the place of the first ready answer says how many were taken, with the two counts. Assumes nothing.
+-- `waits::measure` meets its contract: the place of the first ready answer says how many were taken, with the two counts.
 use Prim.Native.Nat.{ℕ, _+_, _-_, _*_}
 use native.Mathlib.Omega.{arith}
 use mathlib.Core.Path.{_≡_, refl}

@@ -1,4 +1,4 @@
--- `waits::wait_for` meets its contract: the place of the first ready answer says how many were taken. Assumes nothing.
+-- `waits::wait_for` meets its contract: the place of the first ready answer says how many were taken.
 use Prim.Native.Nat.{ℕ, _+_, _-_, _*_}
 use native.Mathlib.Omega.{arith}
 use mathlib.Core.Path.{_≡_, refl, subst, sym, ap}

@@ -1,4 +1,4 @@
--- `booking::tests::refusal` meets its contract: each test that led to a return decides its part of `bookTests`. Assumes nothing.
+-- `booking::tests::refusal` meets its contract: each test that led to a return decides its part of `bookTests`.
 use mathlib.Core.Path.{_≡_, sym, ap, _∙_}
 use mathlib.Core.Bool.{true, false}
 use mathlib.Core.List.{[], _∷_, _++_}

@@ -1,4 +1,4 @@
--- `calibration::measure::difference` meets its contract: the test picks the case. Assumes nothing.
+-- `calibration::measure::difference` meets its contract: the test picks the case.
 use borrow.Author.Tests.{lt-ltb, le-ltb}
 use Rattle.calibration.specs.measure.{difference}
 use borrow.Author.Needs.{needs}

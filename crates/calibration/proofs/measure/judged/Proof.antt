@@ -1,4 +1,4 @@
--- `calibration::measure::judged` meets its contract: the test picks the case. Assumes nothing.
+-- `calibration::measure::judged` meets its contract: the test picks the case.
 use native.Mathlib.Omega.{arith}
 use mathlib.Core.Path.{refl}
 use borrow.Author.Tests.{lt-ltb, le-ltb}

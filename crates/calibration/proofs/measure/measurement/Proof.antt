@@ -1,4 +1,4 @@
--- `calibration::measure::measurement` meets its contract: one step after the other. Assumes nothing.
+-- `calibration::measure::measurement` meets its contract: one step after the other.
 use native.Mathlib.Omega.{arith}
 use mathlib.Core.Path.{_≡_, refl, sym, _∙_}
 use Rattle.record.specs.Bytes.{isWithin}

@@ -1,4 +1,4 @@
--- `calibration::search::next_trim` meets its contract: the test picks the case. Assumes nothing.
+-- `calibration::search::next_trim` meets its contract: the test picks the case.
 use borrow.Author.Tests.{lt-ltb, le-ltb}
 use Rattle.calibration.specs.search.{nextTrim}
 use borrow.Author.Needs.{needs}

@@ -1,4 +1,4 @@
--- `calibration::search::run` meets its contract. The loop's invariant: doing the turns left from here does the search. Assumes nothing.
+-- `calibration::search::run` meets its contract. The loop's invariant: doing the turns left from here does the search.
 use Prim.Native.Nat.{_-_}
 use native.Mathlib.Omega.{arith}
 use mathlib.Core.Path.{refl}

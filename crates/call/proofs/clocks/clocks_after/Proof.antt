@@ -1,4 +1,4 @@
--- `call::clocks::clocks_after` meets its contract: the test picks the case. Assumes nothing.
+-- `call::clocks::clocks_after` meets its contract: the test picks the case.
 use mathlib.Core.Path.{refl, _∙_}
 use borrow.Author.Tests.{eq-eqb, ne-eqb}
 use borrow.Author.Needs.{needs}

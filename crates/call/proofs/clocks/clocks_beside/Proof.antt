@@ -1,4 +1,4 @@
--- `call::clocks::clocks_beside` meets its contract: the test picks the case, and the audio pair is set. Assumes nothing.
+-- `call::clocks::clocks_beside` meets its contract: the test picks the case, and the audio pair is set.
 use native.Mathlib.Omega.{arith}
 use mathlib.Core.Path.{_≡_, refl, _∙_}
 use borrow.Author.Tests.{eq-eqb, ne-eqb}

@@ -1,4 +1,4 @@
--- `call::store::store_once` meets its contract: the shared tests, the caller's, then the store. Assumes nothing.
+-- `call::store::store_once` meets its contract: the shared tests, the caller's, then the store.
 use native.Mathlib.Omega.{arith}
 use mathlib.Core.Path.{_∙_}
 use mathlib.Core.List.{[], _∷_}

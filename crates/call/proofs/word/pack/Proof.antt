@@ -1,4 +1,4 @@
--- `call::word::pack` meets its contract: the counts stand above the low word. Assumes nothing.
+-- `call::word::pack` meets its contract: the counts stand above the low word.
 use borrow.Author.Tests.{eq-eqb, ne-eqb}
 use Rattle.call.specs.word.{packed}
 use borrow.Author.Needs.{needs}

@@ -1,4 +1,4 @@
--- `clock::Dll::freq_hz` meets its contract: each arm is a case of `dllHz`. Assumes nothing.
+-- `clock::Dll::freq_hz` meets its contract: each arm is a case of `dllHz`.
 use Rattle.clock.specs.Clock.{dllHz}
 use borrow.Author.Needs.{needs}
 use Rattle.clock.proofs.Dll.freq_hz.Statement.{statement}

@@ -1,4 +1,4 @@
--- `clock_init::core::init_clock` meets its contract: one step after the other. Assumes nothing.
+-- `clock_init::core::init_clock` meets its contract: one step after the other.
 use native.Mathlib.Omega.{arith}
 use mathlib.Core.Path.{ap}
 use Rattle.plan_clocks.specs.declared.Target.{Target}

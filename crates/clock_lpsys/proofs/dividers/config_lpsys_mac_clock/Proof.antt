@@ -1,4 +1,4 @@
--- `clock_lpsys::dividers::config_lpsys_mac_clock` meets its contract: it has no test of its own. Assumes nothing.
+-- `clock_lpsys::dividers::config_lpsys_mac_clock` meets its contract: it has no test of its own.
 use Rattle.call.proofs.store.Tests.{no-own-test}
 use Rattle.clock_lpsys.specs.dividers.{configMac}
 use Rattle.lpsys_tests.proofs.words.Fits.{mac-fits}

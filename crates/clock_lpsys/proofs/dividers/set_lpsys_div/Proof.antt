@@ -1,4 +1,4 @@
--- `clock_lpsys::dividers::set_lpsys_div` meets its contract: exponents that are not refused fit their register. Assumes nothing.
+-- `clock_lpsys::dividers::set_lpsys_div` meets its contract: exponents that are not refused fit their register.
 use mathlib.Core.Path.{sym, _∙_}
 use Rattle.clock_lpsys.specs.dividers.{setLpsysDiv}
 use Rattle.lpsys_tests.proofs.words.Fits.{div-fits}

@@ -1,4 +1,4 @@
--- `clock_lpsys::dividers::set_lpsys_hdiv` meets its contract: the shared tests, then the store. Assumes nothing.
+-- `clock_lpsys::dividers::set_lpsys_hdiv` meets its contract: the shared tests, then the store.
 use native.Mathlib.Omega.{arith}
 use mathlib.Core.List.{[]}
 use Rattle.record.proofs.Refusals.{no-test}

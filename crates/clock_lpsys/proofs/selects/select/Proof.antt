@@ -1,4 +1,4 @@
--- `clock_lpsys::selects::select` meets its contract: a source that is not refused fits its register. Assumes nothing.
+-- `clock_lpsys::selects::select` meets its contract: a source that is not refused fits its register.
 use mathlib.Core.Path.{sym, _∙_}
 use Rattle.clock_lpsys.specs.selects.{select}
 use Rattle.clock_lpsys.proofs.selects.Fits.{source-fits}

@@ -1,4 +1,4 @@
--- `clock_lpsys::selects::select_lpsys_peri` meets its contract: its register holds either source. Assumes nothing.
+-- `clock_lpsys::selects::select_lpsys_peri` meets its contract: its register holds either source.
 use mathlib.Core.Path.{refl}
 use Rattle.record.specs.Bytes.{isWithin}
 use Rattle.register.specs.Word.{wordBytes}

@@ -1,4 +1,4 @@
--- `clock_read::buses::prescale` meets its contract: each arm is a case of `shiftedReading`. Assumes nothing.
+-- `clock_read::buses::prescale` meets its contract: each arm is a case of `shiftedReading`.
 use Rattle.time.proofs.Equal.{hertz-is}
 use borrow.Author.Needs.{needs}
 use Rattle.clock_read.proofs.buses.prescale.Statement.{statement}

@@ -1,4 +1,4 @@
--- `clock_read::devices::flash_freq` meets its contract. Assumes nothing.
+-- `clock_read::devices::flash_freq` meets its contract.
 use borrow.Author.Tests.{eq-eqb, ne-eqb}
 use Rattle.clock_read.specs.devices.{flashOf}
 use borrow.Author.Needs.{needs}

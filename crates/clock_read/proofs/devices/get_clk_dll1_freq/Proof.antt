@@ -1,4 +1,4 @@
--- `clock_read::devices::get_clk_dll1_freq` meets its contract: a stage is at most 15. Assumes nothing.
+-- `clock_read::devices::get_clk_dll1_freq` meets its contract: a stage is at most 15.
 use Rattle.clock_read.proofs.Codes.{dll1-stage}
 use borrow.Author.Needs.{needs}
 use Rattle.clock_read.proofs.devices.get_clk_dll1_freq.Statement.{statement}

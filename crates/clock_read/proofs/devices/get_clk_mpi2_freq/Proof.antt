@@ -1,4 +1,4 @@
--- `clock_read::devices::get_clk_mpi2_freq` meets its contract. Assumes nothing.
+-- `clock_read::devices::get_clk_mpi2_freq` meets its contract.
 use borrow.Author.Needs.{needs}
 use Rattle.clock_read.proofs.devices.get_clk_mpi2_freq.Statement.{statement}
 use Rattle.clock_read.proofs.devices.get_clk_mpi2_freq.Tie as tie

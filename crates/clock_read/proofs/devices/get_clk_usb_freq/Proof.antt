@@ -1,4 +1,4 @@
--- `clock_read::devices::get_clk_usb_freq` meets its contract. Assumes nothing.
+-- `clock_read::devices::get_clk_usb_freq` meets its contract.
 use Rattle.clock_read.specs.devices.{usbOf}
 use borrow.Author.Needs.{needs}
 use Rattle.clock_read.proofs.devices.get_clk_usb_freq.Statement.{statement}

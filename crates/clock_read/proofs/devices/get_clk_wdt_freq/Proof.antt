@@ -1,4 +1,4 @@
--- `clock_read::devices::get_clk_wdt_freq` meets its contract. Assumes nothing.
+-- `clock_read::devices::get_clk_wdt_freq` meets its contract.
 use borrow.Author.Tests.{eq-eqb, ne-eqb}
 use Rattle.clock_read.specs.devices.{wdtOf}
 use borrow.Author.Needs.{needs}

@@ -1,4 +1,4 @@
--- `clock_read::devices::usb_source` meets its contract. Assumes nothing.
+-- `clock_read::devices::usb_source` meets its contract.
 use borrow.Author.Tests.{eq-eqb, ne-eqb}
 use Rattle.clock_read.specs.devices.{usbSource}
 use borrow.Author.Needs.{needs}

@@ -1,4 +1,4 @@
--- `clock_read::lpsys::get_lpsys_hclk_freq` meets its contract. Assumes nothing.
+-- `clock_read::lpsys::get_lpsys_hclk_freq` meets its contract.
 use Rattle.clock_read.specs.lpsys.{lpsysHclkOf}
 use borrow.Author.Needs.{needs}
 use Rattle.clock_read.proofs.lpsys.get_lpsys_hclk_freq.Statement.{statement}

@@ -1,4 +1,4 @@
--- `clock_read::lpsys::source_freq` meets its contract. Assumes nothing.
+-- `clock_read::lpsys::source_freq` meets its contract.
 use borrow.Author.Tests.{eq-eqb, ne-eqb}
 use borrow.Author.Needs.{needs}
 use Rattle.clock_read.proofs.lpsys.source_freq.Statement.{statement}

@@ -1,4 +1,4 @@
--- `core_clock::dividers::apply_dividers` meets its contract: one store. Assumes nothing.
+-- `core_clock::dividers::apply_dividers` meets its contract: one store.
 use Rattle.core_clock.specs.dividers.{dividers}
 use borrow.Author.Needs.{needs}
 use Rattle.core_clock.proofs.dividers.apply_dividers.Statement.{statement}

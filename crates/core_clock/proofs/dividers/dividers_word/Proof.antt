@@ -1,4 +1,4 @@
--- `core_clock::dividers::dividers_word` meets its contract: three bytes make the word. Assumes nothing.
+-- `core_clock::dividers::dividers_word` meets its contract: three bytes make the word.
 use mathlib.Core.Path.{refl}
 use Rattle.core_clock.proofs.dividers.Fits.{dividers-fit}
 use borrow.Author.Needs.{needs}

@@ -1,4 +1,4 @@
--- `core_clock::switch::config_clock` meets its contract: one step after the other. Assumes nothing.
+-- `core_clock::switch::config_clock` meets its contract: one step after the other.
 use native.Mathlib.Omega.{arith}
 use Rattle.plan.proofs.Legal.{legal-stages}
 use Rattle.core_clock.specs.switch.{configClock}

@@ -1,4 +1,4 @@
--- `core_clock::switch::config_hcpu_dvfs` meets its contract: the modes pick the case of `transition`. Assumes nothing.
+-- `core_clock::switch::config_hcpu_dvfs` meets its contract: the modes pick the case of `transition`.
 use native.Mathlib.Omega.{arith}
 use mathlib.Core.Path.{_≡_, refl, sym, _∙_}
 use mathlib.Core.List.{List}

@@ -1,4 +1,4 @@
--- `core_clock::switch::config_in_modes` meets its contract: one step after the other. Assumes nothing.
+-- `core_clock::switch::config_in_modes` meets its contract: one step after the other.
 use native.Mathlib.Omega.{arith}
 use Rattle.journal.proofs.Does.{_then_, lent-after}
 use borrow.Author.Needs.{needs}

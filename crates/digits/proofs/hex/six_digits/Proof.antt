@@ -1,4 +1,4 @@
--- `digits::hex::six_digits` meets its contract: each digit is the rest of another division by 16. Assumes nothing.
+-- `digits::hex::six_digits` meets its contract: each digit is the rest of another division by 16.
 use Rattle.digits.specs.hexadecimal.{hexDigits}
 use borrow.Author.Needs.{needs}
 use Rattle.digits.proofs.hex.six_digits.Statement.{statement}

@@ -1,4 +1,4 @@
--- `digits::hexadecimal::decode_pair` meets its contract: each test is a case of `pairOf`. Assumes nothing.
+-- `digits::hexadecimal::decode_pair` meets its contract: each test is a case of `pairOf`.
 use borrow.Author.Tests.{lt-ltb, le-ltb}
 use borrow.Author.Needs.{needs}
 use Rattle.digits.proofs.hexadecimal.decode_pair.Statement.{statement}

@@ -1,4 +1,4 @@
--- `digits::hexadecimal::digit` meets its contract: each range of bytes is a case of `digitOf`. Assumes nothing.
+-- `digits::hexadecimal::digit` meets its contract: each range of bytes is a case of `digitOf`.
 use borrow.Author.Tests.{le-leb, lt-leb}
 use borrow.Author.Needs.{needs}
 use Rattle.digits.proofs.hexadecimal.digit.Statement.{statement}

@@ -1,4 +1,4 @@
--- `digits::hexadecimal::eight_digits` meets its contract: each digit is the rest of another division by 16. Assumes nothing.
+-- `digits::hexadecimal::eight_digits` meets its contract: each digit is the rest of another division by 16.
 use Rattle.digits.specs.hexadecimal.{hexDigits}
 use borrow.Author.Needs.{needs}
 use Rattle.digits.proofs.hexadecimal.eight_digits.Statement.{statement}

@@ -1,4 +1,4 @@
--- `digits::hexadecimal::glyph` meets its contract. Assumes nothing.
+-- `digits::hexadecimal::glyph` meets its contract.
 use borrow.Author.Tests.{lt-ltb, le-ltb}
 use borrow.Author.Needs.{needs}
 use Rattle.digits.proofs.hexadecimal.glyph.Statement.{statement}

@@ -1,5 +1,4 @@
 -- `digits::request::decimal` meets its contract. The loop's invariant: the rest of the text, read on from the number so far, is the request.
--- Assumes nothing.
 use borrow.Author.Tests.{not-true, not-false}
 use Prim.Native.Nat.{_-_, _≤_}
 use mathlib.Core.Path.{_≡_, refl, sym, _∙_}

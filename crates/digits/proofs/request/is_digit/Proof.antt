@@ -1,4 +1,4 @@
--- `digits::request::is_digit` meets its contract. Assumes nothing.
+-- `digits::request::is_digit` meets its contract.
 use borrow.Author.Tests.{le-leb, lt-leb}
 use borrow.Author.Needs.{needs}
 use Rattle.digits.proofs.request.is_digit.Statement.{statement}

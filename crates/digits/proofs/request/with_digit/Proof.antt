@@ -1,4 +1,4 @@
--- `digits::request::with_digit` meets its contract. Assumes nothing.
+-- `digits::request::with_digit` meets its contract.
 use Rattle.digits.proofs.Decimal.{digit-least}
 use borrow.Author.Needs.{needs}
 use Rattle.digits.proofs.request.with_digit.Statement.{statement}

@@ -1,4 +1,4 @@
--- `dll::words::off_word` meets its contract: half and stage stay. Assumes nothing.
+-- `dll::words::off_word` meets its contract: half and stage stay.
 use mathlib.Core.Path.{refl}
 use native.Mathlib.Omega.{arith}
 use Rattle.clock_read.specs.Hpsys.{reg}

@@ -1,4 +1,4 @@
--- `dll::words::on_word` meets its contract: the flag picks the byte of half. Assumes nothing.
+-- `dll::words::on_word` meets its contract: the flag picks the byte of half.
 use native.Mathlib.Omega.{arith}
 use mathlib.Core.Path.{refl}
 use Rattle.dll.proofs.Fits.{dll-fits}

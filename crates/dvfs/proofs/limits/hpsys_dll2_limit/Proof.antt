@@ -1,4 +1,4 @@
--- `dvfs::limits::hpsys_dll2_limit` meets its contract: the table at the mode's number. Assumes nothing.
+-- `dvfs::limits::hpsys_dll2_limit` meets its contract: the table at the mode's number.
 use Rattle.dvfs.proofs.limits.Tables.{dll2-limit-at}
 use borrow.Author.Needs.{needs}
 use Rattle.dvfs.proofs.limits.hpsys_dll2_limit.Statement.{statement}

@@ -1,4 +1,4 @@
--- `dvfs_hpsys::switch::switch_hcpu_dvfs_d2s_first` meets its contract: one step after the other. Assumes nothing.
+-- `dvfs_hpsys::switch::switch_hcpu_dvfs_d2s_first` meets its contract: one step after the other.
 use Rattle.dvfs_hpsys.specs.switch.{d2sFirst}
 use Rattle.dvfs_hpsys.proofs.volts.Rows.{supply-fits}
 use Rattle.journal.proofs.Does.{_then_}

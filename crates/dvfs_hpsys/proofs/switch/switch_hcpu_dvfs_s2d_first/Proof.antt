@@ -1,4 +1,4 @@
--- `dvfs_hpsys::switch::switch_hcpu_dvfs_s2d_first` meets its contract: the buck, then the ldo. Assumes nothing.
+-- `dvfs_hpsys::switch::switch_hcpu_dvfs_s2d_first` meets its contract: the buck, then the ldo.
 use Rattle.dvfs_hpsys.specs.switch.{s2dFirst}
 use Rattle.dvfs_hpsys.proofs.volts.Rows.{buck-fits, vref-fits}
 use Rattle.journal.proofs.Does.{_then_}

@@ -1,4 +1,4 @@
--- `dvfs_hpsys::switch::switch_hcpu_dvfs_s2d_second` meets its contract: the timing, then the supply. Assumes nothing.
+-- `dvfs_hpsys::switch::switch_hcpu_dvfs_s2d_second` meets its contract: the timing, then the supply.
 use Rattle.dvfs_hpsys.specs.switch.{s2dSecond}
 use Rattle.dvfs_hpsys.proofs.volts.Rows.{supply-fits}
 use Rattle.journal.proofs.Does.{_then_}

@@ -1,4 +1,4 @@
--- `dvfs_hpsys::switch::switch_hcpu_dvfs_s2s_first` meets its contract: the volts, then 250 us. Assumes nothing.
+-- `dvfs_hpsys::switch::switch_hcpu_dvfs_s2s_first` meets its contract: the volts, then 250 us.
 use Rattle.dvfs_hpsys.specs.switch.{s2sFirst}
 use Rattle.journal.proofs.Does.{_then_}
 use borrow.Author.Needs.{needs}

@@ -1,4 +1,4 @@
--- `dvfs_hpsys::volts::config_hcpu_sx_mode_volt` meets its contract: the buck, then the ldo. Assumes nothing.
+-- `dvfs_hpsys::volts::config_hcpu_sx_mode_volt` meets its contract: the buck, then the ldo.
 use Rattle.dvfs_hpsys.specs.volts.{sxModeVolt}
 use Rattle.dvfs_hpsys.proofs.volts.Rows.{buck-fits, ldo-fits}
 use Rattle.journal.proofs.Does.{_then_}

@@ -1,4 +1,4 @@
--- `dvfs_hpsys::volts::store_timing` meets its contract: one store. Assumes nothing.
+-- `dvfs_hpsys::volts::store_timing` meets its contract: one store.
 use Rattle.dvfs_hpsys.specs.volts.{timing}
 use Rattle.dvfs_hpsys.proofs.volts.Rows.{timing-fits}
 use borrow.Author.Needs.{needs}

@@ -1,4 +1,4 @@
--- `dvfs_hpsys::volts::vref` meets its contract, mode by mode. Assumes nothing.
+-- `dvfs_hpsys::volts::vref` meets its contract, mode by mode.
 use mathlib.Core.Path.{_≡_, refl}
 use lib.Dec.{T}
 use lib.IntN.{ℤ, pos, _+ℤ_, natAbs}

@@ -1,4 +1,4 @@
--- `dvfs_lpsys::switch::switch_lpsys_dvfs_d2s_first` meets its contract: one step after the other. Assumes nothing.
+-- `dvfs_lpsys::switch::switch_lpsys_dvfs_d2s_first` meets its contract: one step after the other.
 use Rattle.record.specs.Bytes.{isWithin}
 use Rattle.register.specs.Word.{wordBytes}
 use Rattle.register.specs.Codes.{fitsRegister, largest}

@@ -1,4 +1,4 @@
--- `fit::rail::higher` meets its contract: the tests say which case holds. Assumes nothing.
+-- `fit::rail::higher` meets its contract: the tests say which case holds.
 use mathlib.Core.Path.{sym, _∙_}
 use Rattle.fit.specs.rail.{higher}
 use borrow.Author.Needs.{needs}

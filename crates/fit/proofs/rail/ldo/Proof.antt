@@ -1,4 +1,4 @@
--- `fit::rail::ldo` meets its contract, mode by mode. Assumes nothing.
+-- `fit::rail::ldo` meets its contract, mode by mode.
 use mathlib.Core.Path.{ap, sym, _∙_}
 use Rattle.dvfs.specs.declared.hpsys.HpsysDvfsMode.{HpsysDvfsMode}
 use Rattle.dvfs.specs.declared.hpsys.HpsysDvfsConfig.{HpsysDvfsConfig}

@@ -1,4 +1,4 @@
--- `fit::rail::limit` meets its contract, mode by mode. Assumes nothing.
+-- `fit::rail::limit` meets its contract, mode by mode.
 use borrow.Author.Needs.{needs}
 use Rattle.fit.proofs.rail.limit.Statement.{statement}
 use Rattle.fit.proofs.rail.limit.Tie as tie

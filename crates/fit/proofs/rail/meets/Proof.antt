@@ -1,4 +1,4 @@
--- `fit::rail::meets` meets its contract: the buck decides, or the ldo. Assumes nothing.
+-- `fit::rail::meets` meets its contract: the buck decides, or the ldo.
 use Prim.Native.Nat.{_<_, _≤_}
 use native.Mathlib.Omega.{arith}
 use mathlib.Core.Path.{ap, sym, _∙_}

@@ -1,4 +1,4 @@
--- `fit::rail::rail_limit` meets its contract: by the supply. Assumes nothing.
+-- `fit::rail::rail_limit` meets its contract: by the supply.
 use mathlib.Core.Path.{sym, _∙_}
 use Rattle.clock_read.specs.Hpsys.{reg}
 use Rattle.fit.specs.rail.{railLimit}

@@ -1,4 +1,4 @@
--- `guard::tests::is_overloaded` meets its contract: the load is compared. Assumes nothing.
+-- `guard::tests::is_overloaded` meets its contract: the load is compared.
 use borrow.Author.Needs.{needs}
 use Rattle.guard.proofs.tests.is_overloaded.Statement.{statement}
 use Rattle.guard.proofs.tests.is_overloaded.Tie as tie

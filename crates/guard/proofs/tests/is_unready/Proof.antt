@@ -1,4 +1,4 @@
--- `guard::tests::is_unready` meets its contract: each test decides its part. Assumes nothing.
+-- `guard::tests::is_unready` meets its contract: each test decides its part.
 use borrow.Author.Tests.{eq-eqb, ne-eqb, not-true, not-false}
 use Rattle.guard.proofs.tests.is_unready.Statement.{statement}
 use Rattle.guard.proofs.tests.is_unready.Tie as tie

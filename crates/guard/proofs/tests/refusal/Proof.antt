@@ -1,4 +1,4 @@
--- `guard::tests::refusal` meets its contract: each test that led to a return decides its part of `guardTests`. Assumes nothing.
+-- `guard::tests::refusal` meets its contract: each test that led to a return decides its part of `guardTests`.
 use mathlib.Core.Path.{_≡_, sym, ap, _∙_}
 use mathlib.Core.Bool.{Bool}
 use Prim.Native.Nat.{ℕ}

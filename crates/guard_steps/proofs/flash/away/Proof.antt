@@ -1,4 +1,4 @@
--- `guard_steps::flash::away` meets its contract: the select is tested. Assumes nothing.
+-- `guard_steps::flash::away` meets its contract: the select is tested.
 use native.Mathlib.Omega.{arith}
 use borrow.Author.Tests.{eq-eqb, ne-eqb}
 use Rattle.guard_steps.proofs.flash.away.Statement.{statement}

@@ -1,4 +1,4 @@
--- `guard_steps::flash::is_on_dll1` meets its contract: the first select decides, or the second. Assumes nothing.
+-- `guard_steps::flash::is_on_dll1` meets its contract: the first select decides, or the second.
 use mathlib.Core.Path.{sym, _∙_}
 use borrow.Author.Tests.{eq-eqb, ne-eqb}
 use borrow.Author.Needs.{needs}

@@ -1,4 +1,4 @@
--- `guard_steps::flash::moved` meets its contract: each select moved away. Assumes nothing.
+-- `guard_steps::flash::moved` meets its contract: each select moved away.
 use mathlib.Core.Path.{_≡_}
 use Rattle.register.specs.Codes.{fitsRegister}
 use Rattle.guard_steps.specs.flash.{moved}

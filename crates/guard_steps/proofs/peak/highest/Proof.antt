@@ -1,4 +1,4 @@
--- `guard_steps::peak::highest` meets its contract: the numbers are compared. Assumes nothing.
+-- `guard_steps::peak::highest` meets its contract: the numbers are compared.
 use native.Mathlib.Omega.{arith}
 use borrow.Author.Tests.{le-leb, lt-leb}
 use Rattle.guard_steps.specs.peak.{highest}

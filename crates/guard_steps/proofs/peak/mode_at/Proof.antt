@@ -1,4 +1,4 @@
--- `guard_steps::peak::mode_at` meets its contract: a mode was found or none. Assumes nothing.
+-- `guard_steps::peak::mode_at` meets its contract: a mode was found or none.
 use mathlib.Core.Path.{sym, ap, _∙_}
 use Rattle.guard_steps.specs.peak.{modeOrHighest, modeAt}
 use borrow.Author.Needs.{needs}

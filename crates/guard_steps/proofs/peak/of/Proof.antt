@@ -1,4 +1,4 @@
--- `guard_steps::peak::of` meets its contract: the higher of two, twice. Assumes nothing.
+-- `guard_steps::peak::of` meets its contract: the higher of two, twice.
 use Rattle.guard_steps.specs.peak.{peakOf}
 use borrow.Author.Needs.{needs}
 use Rattle.guard_steps.proofs.peak.of.Statement.{statement}

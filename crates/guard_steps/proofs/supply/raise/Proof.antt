@@ -1,4 +1,4 @@
--- `guard_steps::supply::raise` meets its contract: the rail limit and the peak's supply pick the case. Assumes nothing.
+-- `guard_steps::supply::raise` meets its contract: the rail limit and the peak's supply pick the case.
 use native.Mathlib.Omega.{arith}
 use borrow.Author.Tests.{lt-ltb, le-ltb}
 use Rattle.fit.specs.rail.{limitHz, railLimit}

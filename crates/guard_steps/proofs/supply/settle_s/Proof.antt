@@ -1,4 +1,4 @@
--- `guard_steps::supply::settle_s` meets its contract: one step after the other. Assumes nothing.
+-- `guard_steps::supply::settle_s` meets its contract: one step after the other.
 use Prim.Native.Nat.{ℕ}
 use mathlib.Core.List.{List}
 use Rattle.register.specs.Numbers.{HPSYS_SUPPLY}

@@ -1,4 +1,4 @@
--- `guard_steps::supply::target_rails` meets its contract: by the supply of the mode. Assumes nothing.
+-- `guard_steps::supply::target_rails` meets its contract: by the supply of the mode.
 use native.Mathlib.Omega.{arith}
 use Rattle.guard_steps.proofs.supply.Cases.{settle-d, settle-s}
 use Rattle.journal.proofs.Does.{_then_}

@@ -1,4 +1,4 @@
--- `head::from_bytes::blank_head` meets its contract: the value made is `blank`. Assumes nothing.
+-- `head::from_bytes::blank_head` meets its contract: the value made is `blank`.
 use mathlib.Core.Path.{refl}
 use Rattle.head.specs.Record.{blank}
 use Rattle.head.proofs.from_bytes.blank_head.Statement.{statement}

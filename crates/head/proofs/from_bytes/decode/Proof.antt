@@ -1,4 +1,4 @@
--- `head::from_bytes::decode` meets its contract: a refused record gives `blank`, and any other passed the tests. Assumes nothing.
+-- `head::from_bytes::decode` meets its contract: a refused record gives `blank`, and any other passed the tests.
 use mathlib.Core.Path.{_≡_, sym, _∙_}
 use borrow.Author.Tests.{eq-eqb, ne-eqb}
 use Rattle.head.specs.Record.{headRefusal}

@@ -1,4 +1,4 @@
--- `head::from_bytes::length_fits` meets its contract: each test that led to a return decides its part of `lengthFits`. Assumes nothing.
+-- `head::from_bytes::length_fits` meets its contract: each test that led to a return decides its part of `lengthFits`.
 use native.Mathlib.Omega.{arith}
 use borrow.Author.Tests.{eq-eqb, ne-eqb, lt-leb, le-leb}
 use Rattle.layout.specs.Layout.{taskCountAt, mostTasks}

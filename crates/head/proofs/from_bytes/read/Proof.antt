@@ -1,4 +1,4 @@
--- `head::from_bytes::read` meets its contract: each field is the part of the record that `headOf` names. Assumes nothing.
+-- `head::from_bytes::read` meets its contract: each field is the part of the record that `headOf` names.
 use Rattle.head.specs.Record.{headOf}
 use borrow.Author.Needs.{needs}
 use Rattle.head.proofs.from_bytes.read.Statement.{statement}

@@ -1,4 +1,4 @@
--- `head::from_bytes::refusal` meets its contract: the tests that led to a return decide the refusals in their order. Assumes nothing.
+-- `head::from_bytes::refusal` meets its contract: the tests that led to a return decide the refusals in their order.
 use mathlib.Core.Path.{_≡_, sym, _∙_}
 use mathlib.Core.Bool.{true, false}
 use native.Mathlib.Omega.{arith}

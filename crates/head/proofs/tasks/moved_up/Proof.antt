@@ -1,5 +1,5 @@
 -- `head::tasks::moved_up` meets its contract. The loop's invariant: the places passed hold what was at the next place, the others what
--- they held. Assumes nothing.
+-- they held.
 use Prim.Native.Nat.{_-_, _≤_}
 use mathlib.Core.Path.{_≡_}
 use mathlib.Core.List.{_++_}

@@ -1,4 +1,4 @@
--- `head::tasks::place_of` meets its contract. The loop's invariant: the place is that in the rest, so many places on. Assumes nothing.
+-- `head::tasks::place_of` meets its contract. The loop's invariant: the place is that in the rest, so many places on.
 use Prim.Native.Nat.{_+_, _-_, _≤_}
 use mathlib.Core.Path.{_≡_, refl, sym}
 use borrow.Author.Needs.{needs}

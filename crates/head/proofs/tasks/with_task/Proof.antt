@@ -1,4 +1,4 @@
--- `head::tasks::with_task` meets its contract: the first empty place is filled. Assumes nothing.
+-- `head::tasks::with_task` meets its contract: the first empty place is filled.
 use borrow.Author.Needs.{needs}
 use Rattle.head.proofs.tasks.Holding.{more-places, more-count}
 use Rattle.head.proofs.tasks.with_task.Statement.{statement}

@@ -1,4 +1,4 @@
--- `head::tasks::without_task` meets its contract: the task's place is within the booked ones. Assumes nothing.
+-- `head::tasks::without_task` meets its contract: the task's place is within the booked ones.
 use mathlib.Core.Path.{_≡_, ap, _∙_}
 use native.Mathlib.Omega.{arith}
 use Rattle.head.specs.Head.{booked}

@@ -1,4 +1,4 @@
--- `head::to_bytes::encode` meets its contract: the four parts of the record, written one after the other. Assumes nothing.
+-- `head::to_bytes::encode` meets its contract: the four parts of the record, written one after the other.
 use mathlib.Core.Path.{_∙_}
 use Rattle.head.proofs.from_bytes.Parts.{record-laid}
 use native.Mathlib.Omega.{arith}

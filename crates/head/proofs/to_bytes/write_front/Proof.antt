@@ -1,4 +1,4 @@
--- `head::to_bytes::write_front` meets its contract: the bytes put are those of `frontOf`. Assumes nothing.
+-- `head::to_bytes::write_front` meets its contract: the bytes put are those of `frontOf`.
 use mathlib.Core.Path.{_∙_}
 use Rattle.head.specs.Record.{frontOf}
 use borrow.Author.Needs.{needs}

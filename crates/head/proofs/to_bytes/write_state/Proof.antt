@@ -1,4 +1,4 @@
--- `head::to_bytes::write_state` meets its contract: the bytes put are those of `stateOf`. Assumes nothing.
+-- `head::to_bytes::write_state` meets its contract: the bytes put are those of `stateOf`.
 use mathlib.Core.Path.{_∙_}
 use Rattle.head.specs.Record.{stateOf}
 use borrow.Author.Needs.{needs}

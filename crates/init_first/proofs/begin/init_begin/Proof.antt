@@ -1,4 +1,4 @@
--- `init_first::begin::init_begin` meets its contract: one step after the other. Assumes nothing.
+-- `init_first::begin::init_begin` meets its contract: one step after the other.
 use Rattle.init_first.specs.begin.{initBegin}
 use Rattle.init_first.proofs.Fits.{peri-fits}
 use Rattle.journal.proofs.Does.{_then_}

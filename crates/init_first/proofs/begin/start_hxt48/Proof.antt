@@ -1,4 +1,4 @@
--- `init_first::begin::start_hxt48` meets its contract: the test picks the case. Assumes nothing.
+-- `init_first::begin::start_hxt48` meets its contract: the test picks the case.
 use borrow.Author.Tests.{eq-eqb, ne-eqb}
 use Rattle.init_first.specs.begin.{startHxt48On, startHxt48}
 use Rattle.init_first.proofs.Fits.{hxt48-fits}

@@ -1,4 +1,4 @@
--- `init_first::warning::is_warning` meets its contract: the tests in their order. Assumes nothing.
+-- `init_first::warning::is_warning` meets its contract: the tests in their order.
 use mathlib.Core.Path.{refl}
 use borrow.Author.Tests.{eq-eqb, ne-eqb}
 use Rattle.init_first.proofs.warning.is_warning.Statement.{statement}

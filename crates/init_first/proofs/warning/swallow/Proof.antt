@@ -1,4 +1,4 @@
--- `init_first::warning::swallow` meets its contract: a stop of 31 or 33 is told, and no longer one. Assumes nothing.
+-- `init_first::warning::swallow` meets its contract: a stop of 31 or 33 is told, and no longer one.
 use native.Mathlib.Omega.{arith}
 use mathlib.Core.Path.{refl, sym, ap, _∙_}
 use mathlib.Core.Bool.{cond}

@@ -1,4 +1,4 @@
--- `init_rest::flash::back_to` meets its contract: the test picks the case. Assumes nothing.
+-- `init_rest::flash::back_to` meets its contract: the test picks the case.
 use native.Mathlib.Omega.{arith}
 use mathlib.Core.Path.{refl}
 use borrow.Author.Tests.{eq-eqb, ne-eqb}

@@ -1,4 +1,4 @@
--- `init_rest::flash::flash_back` meets its contract: each select is set back by itself. Assumes nothing.
+-- `init_rest::flash::flash_back` meets its contract: each select is set back by itself.
 use Rattle.init_rest.specs.flash.{flashBack}
 use Rattle.init_rest.proofs.Fits.{flash-fits}
 use borrow.Author.Needs.{needs}

@@ -1,4 +1,4 @@
--- `init_rest::selects::configure_muxes` meets its contract: one store after the other. Assumes nothing.
+-- `init_rest::selects::configure_muxes` meets its contract: one store after the other.
 use native.Mathlib.Omega.{arith}
 use Rattle.register.proofs.Fits.{zero-fits}
 use Rattle.init_rest.specs.selects.{plannedMuxes}

@@ -1,4 +1,4 @@
--- `init_rest::selects::configure_usb` meets its contract: the flag picks the case. Assumes nothing.
+-- `init_rest::selects::configure_usb` meets its contract: the flag picks the case.
 use Rattle.init_rest.specs.selects.{plannedUsb}
 use Rattle.init_rest.proofs.Fits.{usb-fits, source-fits}
 use Rattle.journal.proofs.Does.{_then_, does-nothing}

@@ -1,4 +1,4 @@
--- `journal::Machine::refuse` meets its contract: the stop alone changes. Assumes nothing.
+-- `journal::Machine::refuse` meets its contract: the stop alone changes.
 use native.Mathlib.Omega.{arith}
 use mathlib.Core.Path.{_≡_, refl, ap}
 use Rattle.journal.specs.declared.Machine.{Machine}

@@ -1,4 +1,4 @@
--- `journal::Machine::store` meets its contract: one entry, and the value in the register, unless the call has ended. Assumes nothing.
+-- `journal::Machine::store` meets its contract: one entry, and the value in the register, unless the call has ended.
 use native.Mathlib.Omega.{arith}
 use mathlib.Core.Path.{refl}
 use Rattle.register.proofs.Fits.{fits-word}

@@ -1,4 +1,4 @@
--- `journal::Machine::write` meets its contract: one entry, unless the call has ended. Assumes nothing.
+-- `journal::Machine::write` meets its contract: one entry, unless the call has ended.
 use native.Mathlib.Omega.{arith}
 use mathlib.Core.Path.{refl}
 use Rattle.journal.proofs.Reached.{ran-ended, ran-wrote}

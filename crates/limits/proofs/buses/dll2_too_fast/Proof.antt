@@ -1,4 +1,4 @@
--- `limits::buses::dll2_too_fast` meets its contract. Assumes nothing.
+-- `limits::buses::dll2_too_fast` meets its contract.
 use borrow.Author.Tests.{not-true, not-false}
 use Rattle.limits.specs.Limits.{dll2TooFast}
 use borrow.Author.Needs.{needs}

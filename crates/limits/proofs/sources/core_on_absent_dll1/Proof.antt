@@ -1,4 +1,4 @@
--- `limits::sources::core_on_absent_dll1` meets its contract. Assumes nothing.
+-- `limits::sources::core_on_absent_dll1` meets its contract.
 use borrow.Author.Tests.{eq-eqb, ne-eqb, not-true, not-false}
 use Rattle.limits.specs.Limits.{coreOnAbsentDll1}
 use borrow.Author.Needs.{needs}

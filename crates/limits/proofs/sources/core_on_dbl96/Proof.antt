@@ -1,4 +1,4 @@
--- `limits::sources::core_on_dbl96` meets its contract. Assumes nothing.
+-- `limits::sources::core_on_dbl96` meets its contract.
 use mathlib.Core.Path.{refl}
 use Rattle.limits.specs.Limits.{coreOnDbl96}
 use Rattle.limits.proofs.sources.core_on_dbl96.Statement.{statement}

@@ -1,4 +1,4 @@
--- `limits::sources::flash_on_absent_dll` meets its contract. Assumes nothing.
+-- `limits::sources::flash_on_absent_dll` meets its contract.
 use borrow.Author.Tests.{eq-eqb, ne-eqb, not-true, not-false}
 use Rattle.limits.specs.Limits.{flashOnAbsentDll}
 use borrow.Author.Needs.{needs}

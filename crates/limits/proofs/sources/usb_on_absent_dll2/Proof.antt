@@ -1,4 +1,4 @@
--- `limits::sources::usb_on_absent_dll2` meets its contract. Assumes nothing.
+-- `limits::sources::usb_on_absent_dll2` meets its contract.
 use borrow.Author.Tests.{eq-eqb, ne-eqb, not-true, not-false}
 use Rattle.limits.specs.Limits.{usbOnAbsentDll2}
 use borrow.Author.Needs.{needs}

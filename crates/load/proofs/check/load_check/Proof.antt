@@ -1,5 +1,4 @@
 -- `load::check::load_check` meets its contract: each test that led to a return decides its part of `checkRefusal`.
--- Assumes nothing.
 use Prim.Native.Nat.{_/_}
 use mathlib.Core.Path.{_≡_, ap, sym, _∙_}
 use mathlib.Core.Bool.{true, false}

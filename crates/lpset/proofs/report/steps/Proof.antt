@@ -1,4 +1,4 @@
--- `lpset::report::steps` meets its contract. The loop's invariant: `i` is at most the number of entries. The measure is the rest of them. Assumes nothing.
+-- `lpset::report::steps` meets its contract. The loop's invariant: `i` is at most the number of entries. The measure is the rest of them.
 use Prim.Native.Nat.{_-_, _≤_}
 use lib.ListN.{length}
 use borrow.Author.Needs.{needs}

@@ -1,4 +1,4 @@
--- `lpsys_request::frequency::config_lpsys_hclk_mhz` meets its contract: the shared tests, 15, then the request. Assumes nothing.
+-- `lpsys_request::frequency::config_lpsys_hclk_mhz` meets its contract: the shared tests, 15, then the request.
 use Rattle.call.proofs.Admitting.{lent-journal}
 use native.Mathlib.Omega.{arith}
 use mathlib.Core.Path.{sym, _∙_}

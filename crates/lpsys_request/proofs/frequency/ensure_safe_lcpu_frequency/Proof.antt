@@ -1,4 +1,4 @@
--- `lpsys_request::frequency::ensure_safe_lcpu_frequency` meets its contract: the shared tests, 43, then the slowing. Assumes nothing.
+-- `lpsys_request::frequency::ensure_safe_lcpu_frequency` meets its contract: the shared tests, 43, then the slowing.
 use mathlib.Core.List.{[], _∷_}
 use Rattle.record.proofs.Refusals.{only-test}
 use native.Mathlib.Omega.{arith}

@@ -1,4 +1,4 @@
--- `lpsys_request::hdiv::set_hdiv` meets its contract: the two exponents stay. Assumes nothing.
+-- `lpsys_request::hdiv::set_hdiv` meets its contract: the two exponents stay.
 use Rattle.journal.proofs.Does.{by-head}
 use Rattle.lpsys_request.specs.hdiv.{setHdivOn, setHdiv}
 use Rattle.lpsys_request.proofs.hdiv.Fits.{hdiv-fits}

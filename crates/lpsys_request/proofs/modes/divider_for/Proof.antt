@@ -1,4 +1,4 @@
--- `lpsys_request::modes::divider_for` meets its contract: the source gives 48 MHz, so the divider is at most 48. Assumes nothing.
+-- `lpsys_request::modes::divider_for` meets its contract: the source gives 48 MHz, so the divider is at most 48.
 use native.Mathlib.Omega.{arith}
 use mathlib.Core.Path.{ap, _∙_}
 use borrow.Author.Tests.{le-leb, lt-leb}

@@ -1,4 +1,4 @@
--- `lpsys_request::modes::present_mode` meets its contract. Assumes nothing.
+-- `lpsys_request::modes::present_mode` meets its contract.
 use Rattle.lpsys_request.specs.modes.{presentMode}
 use borrow.Author.Needs.{needs}
 use Rattle.lpsys_request.proofs.modes.present_mode.Statement.{statement}

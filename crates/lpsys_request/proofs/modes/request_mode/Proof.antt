@@ -1,4 +1,4 @@
--- `lpsys_request::modes::request_mode` meets its contract. Assumes nothing.
+-- `lpsys_request::modes::request_mode` meets its contract.
 use Rattle.lpsys_request.specs.modes.{requestMode}
 use borrow.Author.Needs.{needs}
 use Rattle.lpsys_request.proofs.modes.request_mode.Statement.{statement}

@@ -1,4 +1,4 @@
--- `lpsys_request::slow::slow_down` meets its contract: a request of 24 MHz where LPSYS HCLK is above it. Assumes nothing.
+-- `lpsys_request::slow::slow_down` meets its contract: a request of 24 MHz where LPSYS HCLK is above it.
 use native.Mathlib.Omega.{arith}
 use borrow.Author.Tests.{lt-ltb, le-ltb}
 use Rattle.journal.proofs.Does.{by-head, does-nothing}

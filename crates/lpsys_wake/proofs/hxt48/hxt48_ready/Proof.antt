@@ -1,4 +1,4 @@
--- `lpsys_wake::hxt48::hxt48_ready` meets its contract: one domain after the other. Assumes nothing.
+-- `lpsys_wake::hxt48::hxt48_ready` meets its contract: one domain after the other.
 use Rattle.journal.proofs.Does.{_then_}
 use Rattle.lpsys_wake.specs.hxt48.{hxt48Ready}
 use borrow.Author.Needs.{needs}

@@ -1,4 +1,4 @@
--- `lpsys_wake::hxt48::request_hxt48` meets its contract: the flag picks the case of `requestHxt48`. Assumes nothing.
+-- `lpsys_wake::hxt48::request_hxt48` meets its contract: the flag picks the case of `requestHxt48`.
 use Rattle.record.specs.Bytes.{isWithin}
 use Rattle.register.specs.Word.{wordBytes}
 use Rattle.register.specs.Codes.{fitsRegister, largest}

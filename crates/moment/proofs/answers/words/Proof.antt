@@ -1,4 +1,4 @@
--- `moment::answers::words` meets its contract. The loop's invariant: the places passed hold the words read. Assumes nothing.
+-- `moment::answers::words` meets its contract. The loop's invariant: the places passed hold the words read.
 use Prim.Native.Nat.{ℕ, _-_, _/_, _<_, _≤_}
 use mathlib.Core.Path.{_≡_, sym}
 use native.Mathlib.Omega.{arith}

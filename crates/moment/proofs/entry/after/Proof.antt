@@ -1,4 +1,4 @@
--- `moment::entry::after` meets its contract. Assumes nothing.
+-- `moment::entry::after` meets its contract.
 use Prim.Native.Nat.{_/_}
 use native.Mathlib.Omega.{arith}
 use borrow.Author.Tests.{lt-ltb, le-ltb}

@@ -1,4 +1,4 @@
--- `moment::entry::store` meets its contract: the registers are read, one is stored, and all are written back. Assumes nothing.
+-- `moment::entry::store` meets its contract: the registers are read, one is stored, and all are written back.
 use borrow.Author.Needs.{needs}
 use Rattle.moment.proofs.entry.store.Statement.{statement}
 use Rattle.moment.proofs.entry.store.Tie as tie

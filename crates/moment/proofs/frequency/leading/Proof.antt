@@ -1,4 +1,4 @@
--- `moment::frequency::leading` meets its contract. Assumes nothing.
+-- `moment::frequency::leading` meets its contract.
 use borrow.Author.Tests.{ne-eqb}
 use Rattle.moment.specs.Megahertz.{leadingOf}
 use borrow.Author.Needs.{needs}

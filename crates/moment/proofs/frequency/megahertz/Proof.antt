@@ -1,4 +1,4 @@
--- `moment::frequency::megahertz` meets its contract. Assumes nothing.
+-- `moment::frequency::megahertz` meets its contract.
 use Rattle.moment.specs.Megahertz.{megahertzText}
 use borrow.Author.Needs.{needs}
 use Rattle.moment.proofs.frequency.megahertz.Statement.{statement}

@@ -1,4 +1,4 @@
--- `moments::columns::write` meets its contract. Assumes nothing.
+-- `moments::columns::write` meets its contract.
 use mathlib.Core.Path.{sym}
 use lib.Seq.{length-take-le}
 use borrow.Author.Needs.{needs}

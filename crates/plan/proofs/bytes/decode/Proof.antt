@@ -1,4 +1,4 @@
--- `plan::bytes::decode` meets its contract: a record that is not refused has the 20 bytes that its fields are read from. Assumes nothing.
+-- `plan::bytes::decode` meets its contract: a record that is not refused has the 20 bytes that its fields are read from.
 use borrow.Author.Tests.{eq-eqb, ne-eqb, not-true, not-false}
 use mathlib.Core.Path.{sym, _∙_}
 use Rattle.plan.specs.bytes.{decoded}

@@ -1,4 +1,4 @@
--- `plan::bytes::encode` meets its contract: each element is what `encoded` has at its place. Assumes nothing.
+-- `plan::bytes::encode` meets its contract: each element is what `encoded` has at its place.
 use Rattle.plan.specs.Plan.{encoded}
 use borrow.Author.Needs.{needs}
 use Rattle.plan.proofs.bytes.encode.Statement.{statement}

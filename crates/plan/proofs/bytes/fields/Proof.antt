@@ -1,4 +1,4 @@
--- `plan::bytes::fields` meets its contract: each field is what `planOf` reads at its place. Assumes nothing.
+-- `plan::bytes::fields` meets its contract: each field is what `planOf` reads at its place.
 use Rattle.plan.specs.bytes.{planOf}
 use borrow.Author.Needs.{needs}
 use Rattle.plan.proofs.bytes.fields.Statement.{statement}

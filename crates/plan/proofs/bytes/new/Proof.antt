@@ -1,4 +1,4 @@
--- `plan::bytes::new` meets its contract: its record is the default plan's. Assumes nothing.
+-- `plan::bytes::new` meets its contract: its record is the default plan's.
 use mathlib.Core.Path.{refl}
 use Rattle.plan.specs.Plan.{encoded}
 use Rattle.plan.proofs.bytes.new.Statement.{statement}

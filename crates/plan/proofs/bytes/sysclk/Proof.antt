@@ -1,4 +1,4 @@
--- `plan::bytes::sysclk` meets its contract. Assumes nothing.
+-- `plan::bytes::sysclk` meets its contract.
 use mathlib.Core.Path.{refl}
 use Rattle.plan.specs.Plan.{encoded}
 use Rattle.plan.proofs.bytes.sysclk.Statement.{statement}

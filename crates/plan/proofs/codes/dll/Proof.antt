@@ -1,4 +1,4 @@
--- `plan::codes::dll` meets its contract: the test picks the case of `dllOf`. Assumes nothing.
+-- `plan::codes::dll` meets its contract: the test picks the case of `dllOf`.
 use borrow.Author.Tests.{eq-eqb, ne-eqb}
 use Rattle.plan.specs.codes.{dllOf}
 use Rattle.plan.proofs.codes.dll.Statement.{statement}

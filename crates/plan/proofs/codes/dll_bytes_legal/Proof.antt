@@ -1,4 +1,4 @@
--- `plan::codes::dll_bytes_legal` meets its contract: the tests pick the case of `dllBytesLegal`. Assumes nothing.
+-- `plan::codes::dll_bytes_legal` meets its contract: the tests pick the case of `dllBytesLegal`.
 use borrow.Author.Tests.{eq-eqb, ne-eqb}
 use Rattle.plan.specs.codes.{dllBytesLegal}
 use Rattle.plan.proofs.codes.dll_bytes_legal.Statement.{statement}

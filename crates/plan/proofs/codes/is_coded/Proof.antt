@@ -1,4 +1,4 @@
--- `plan::codes::is_coded` meets its contract: it leaves at the first part of `coded` that fails. Assumes nothing.
+-- `plan::codes::is_coded` meets its contract: it leaves at the first part of `coded` that fails.
 use borrow.Author.Tests.{not-true, not-false}
 use mathlib.Core.Path.{sym, _∙_}
 use Rattle.record.proofs.Bytes.{rest-whole}

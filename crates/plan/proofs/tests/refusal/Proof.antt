@@ -1,4 +1,4 @@
--- `plan::tests::refusal` meets its contract: the tests passed on the way pick the case of `recordRefusal`. Assumes nothing.
+-- `plan::tests::refusal` meets its contract: the tests passed on the way pick the case of `recordRefusal`.
 use borrow.Author.Tests.{eq-eqb, ne-eqb}
 use Rattle.record.specs.Refusals.{firstOf}
 use Rattle.plan.specs.tests.{recordRefusal}

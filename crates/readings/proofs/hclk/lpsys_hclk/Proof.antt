@@ -1,4 +1,4 @@
--- `readings::hclk::lpsys_hclk` meets its contract: on a refused head the array keeps its zeros. Assumes nothing.
+-- `readings::hclk::lpsys_hclk` meets its contract: on a refused head the array keeps its zeros.
 use Prim.Native.Nat.{ℕ}
 use mathlib.Core.Path.{_≡_, refl}
 use mathlib.Core.Bool.{Bool, true, false, cond}

@@ -1,4 +1,4 @@
--- `recorded_answer::calls::compare` meets its contract: the text is that of the call, given and left. Assumes nothing.
+-- `recorded_answer::calls::compare` meets its contract: the text is that of the call, given and left.
 use lib.ListN.{take}
 use Rattle.recorded_answer.specs.given.{givenText}
 use Rattle.recorded_answer.specs.left.{leftText}

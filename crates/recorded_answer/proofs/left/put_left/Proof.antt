@@ -1,4 +1,4 @@
--- `recorded_answer::left::put_left` meets its contract: its parts, one after the other. Assumes nothing.
+-- `recorded_answer::left::put_left` meets its contract: its parts, one after the other.
 use Rattle.text.proofs.Putting.{puts-then}
 use native.Mathlib.Omega.{arith}
 use lib.Seq.{length-take-le}

@@ -1,4 +1,4 @@
--- `recorded_answer::loads::put_load` meets its contract. Assumes nothing.
+-- `recorded_answer::loads::put_load` meets its contract.
 use Rattle.text.proofs.Putting.{puts-then}
 use native.Mathlib.Omega.{arith}
 use borrow.Author.Needs.{needs}

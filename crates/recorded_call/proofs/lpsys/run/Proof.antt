@@ -1,4 +1,4 @@
--- `recorded_call::lpsys::run` meets its contract: each arm is one call, on its bytes of the argument. Assumes nothing.
+-- `recorded_call::lpsys::run` meets its contract: each arm is one call, on its bytes of the argument.
 use borrow.Author.Needs.{needs}
 use Rattle.recorded_call.proofs.lpsys.run.Statement.{statement}
 use Rattle.recorded_call.proofs.lpsys.run.Tie as tie

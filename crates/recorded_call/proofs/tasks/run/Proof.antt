@@ -1,4 +1,4 @@
--- `recorded_call::tasks::run` meets its contract: each arm is one call, on its bytes of the argument. Assumes nothing.
+-- `recorded_call::tasks::run` meets its contract: each arm is one call, on its bytes of the argument.
 use Rattle.task.specs.bytes.{taskIn}
 use borrow.Author.Needs.{needs}
 use Rattle.recorded_call.proofs.tasks.run.Statement.{statement}

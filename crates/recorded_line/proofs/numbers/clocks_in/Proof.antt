@@ -1,4 +1,4 @@
--- `recorded_line::numbers::clocks_in` is safe and ends. Assumes nothing.
+-- `recorded_line::numbers::clocks_in` is safe and ends.
 use Prim.Native.Nat.{_-_}
 use mathlib.Core.Path.{_≡_}
 use native.Mathlib.Omega.{arith}

@@ -1,4 +1,4 @@
--- `recorded_line::numbers::join` meets its contract. The loop's invariant: the first words are those of as many pairs of bytes. Assumes nothing.
+-- `recorded_line::numbers::join` meets its contract. The loop's invariant: the first words are those of as many pairs of bytes.
 use Rattle.recorded_line.proofs.numbers.Joining.{joined-next, joined-all}
 use lib.Seq.{take-suc-set}
 use native.Mathlib.Numerals.{add-one}

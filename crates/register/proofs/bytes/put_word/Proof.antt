@@ -1,4 +1,4 @@
--- `register::bytes::put_word` meets its contract: three stores in a row. Assumes nothing.
+-- `register::bytes::put_word` meets its contract: three stores in a row.
 use native.Mathlib.Omega.{arith}
 use native.Mathlib.Numerals.{add-one, add-two}
 use lib.ListN.{length-set}

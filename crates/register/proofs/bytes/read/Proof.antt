@@ -1,5 +1,4 @@
 -- `register::bytes::read` meets its contract. The loop's invariant: the registers passed hold the words read, and the others are 0.
--- Assumes nothing.
 use Prim.Native.Nat.{ℕ, _+_, _-_, _≤_}
 use mathlib.Core.Path.{_≡_, refl, ap, _∙_}
 use mathlib.Core.List.{List, _∷_, _++_, append-nil}

@@ -1,4 +1,4 @@
--- `register::bytes::word_at` meets its contract: each byte lies at its place of the part that is read. Assumes nothing.
+-- `register::bytes::word_at` meets its contract: each byte lies at its place of the part that is read.
 use native.Mathlib.Omega.{arith}
 use native.Mathlib.Nat.{add-zero}
 use lib.Seq.{getD-drop}

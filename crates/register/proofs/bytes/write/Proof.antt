@@ -1,5 +1,4 @@
 -- `register::bytes::write` meets its contract. The loop's invariant: the registers passed stand at their places, and all else is as it was.
--- Assumes nothing.
 use Rattle.register.proofs.Words.{word-length}
 use lib.Seq.{take-all}
 use Prim.Native.Nat.{_*_, _-_, _≤_}

@@ -1,4 +1,4 @@
--- `replay::calls::call_line` meets its contract: the fields are the line's. Assumes nothing.
+-- `replay::calls::call_line` meets its contract: the fields are the line's.
 use lib.ListN.{length-take}
 use lib.Seq.{length-take-le}
 use native.Mathlib.Omega.{arith}

@@ -1,4 +1,4 @@
--- `replay::calls::run` meets its contract: each arm is the calls of one crate. Assumes nothing.
+-- `replay::calls::run` meets its contract: each arm is the calls of one crate.
 use Rattle.replay.proofs.Recording.{within, beside-answers, beside-within}
 use Rattle.recorded_call.proofs.lpsys.Laws as lpsys
 use Rattle.recorded_config.proofs.Laws as config

@@ -1,4 +1,4 @@
--- `replay::calls::run_line` meets its contract: the line is that of the call, given and left. Assumes nothing.
+-- `replay::calls::run_line` meets its contract: the line is that of the call, given and left.
 use Rattle.replay.proofs.Recording.{shown-most, line-is}
 use mathlib.Core.Path.{_∙_}
 use borrow.Author.Needs.{needs}

@@ -1,4 +1,4 @@
--- `replay::files::open` is safe and ends. Assumes nothing.
+-- `replay::files::open` is safe and ends.
 use lib.Seq.{length-take-le}
 use native.Mathlib.Omega.{arith}
 use mathlib.Core.Path.{sym}

@@ -1,4 +1,4 @@
--- `replay::files::replay_line` is safe and ends: where a line differs, our answer lies within the text. Assumes nothing.
+-- `replay::files::replay_line` is safe and ends: where a line differs, our answer lies within the text.
 use native.Mathlib.Omega.{arith}
 use borrow.Author.Needs.{needs}
 use Rattle.replay.proofs.files.replay_line.Statement.{statement}

@@ -1,5 +1,5 @@
 -- `replay::files::replay_lines` is safe and ends. The loop's invariant: the buffers keep their lengths, and the reader stays within
--- its block. The measure is the number of turns that are left. Assumes nothing.
+-- its block. The measure is the number of turns that are left.
 use lib.Seq.{length-take-le}
 use Prim.Native.Nat.{_-_, _^_}
 use mathlib.Core.Path.{_≡_, sym}

@@ -1,4 +1,4 @@
--- `replay::reading::put_answer` meets its contract: each arm is one reading. Assumes nothing.
+-- `replay::reading::put_answer` meets its contract: each arm is one reading.
 use borrow.Author.Needs.{needs}
 use Rattle.replay.proofs.reading.put_answer.Statement.{statement}
 use Rattle.replay.proofs.reading.put_answer.Tie as tie

@@ -1,4 +1,4 @@
--- `replay::reading::put_clocks` meets its contract. Assumes nothing.
+-- `replay::reading::put_clocks` meets its contract.
 use Rattle.replay.proofs.reading.Laws.{clocks-15, puts-both}
 use native.Mathlib.Omega.{arith}
 use borrow.Author.Needs.{needs}

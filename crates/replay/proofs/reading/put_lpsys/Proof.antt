@@ -1,4 +1,4 @@
--- `replay::reading::put_lpsys` meets its contract. Assumes nothing.
+-- `replay::reading::put_lpsys` meets its contract.
 use Rattle.replay.proofs.reading.Laws.{lpsys-6, puts-both}
 use native.Mathlib.Omega.{arith}
 use borrow.Author.Needs.{needs}

@@ -1,4 +1,4 @@
--- `replay::reading::reading_line` meets its contract: the text is that of the reading, given and answered. Assumes nothing.
+-- `replay::reading::reading_line` meets its contract: the text is that of the reading, given and answered.
 use Rattle.recorded_answer.proofs.Comparing.{same-line}
 use Rattle.text.proofs.Putting.{puts-then}
 use lib.Seq.{length-take-le}

@@ -1,4 +1,4 @@
--- `rikkovan::change::rikkovan_change` meets its contract: the call's answer, packed. Assumes nothing.
+-- `rikkovan::change::rikkovan_change` meets its contract: the call's answer, packed.
 use Rattle.call.proofs.word.Giving.{gives}
 use borrow.Author.Needs.{needs}
 use Rattle.rikkovan.proofs.change.rikkovan_change.Statement.{statement}

@@ -1,4 +1,4 @@
--- `rikkovan::config::rikkovan_calibrate_hrc48` meets its contract: the call's answer, packed. Assumes nothing.
+-- `rikkovan::config::rikkovan_calibrate_hrc48` meets its contract: the call's answer, packed.
 use Rattle.call.proofs.word.Giving.{gives}
 use borrow.Author.Needs.{needs}
 use Rattle.rikkovan.proofs.config.rikkovan_calibrate_hrc48.Statement.{statement}

@@ -1,4 +1,4 @@
--- `rikkovan::lpsys::rikkovan_set_lpsys_div` meets its contract: the call's answer, packed. Assumes nothing.
+-- `rikkovan::lpsys::rikkovan_set_lpsys_div` meets its contract: the call's answer, packed.
 use Rattle.call.proofs.word.Giving.{gives}
 use borrow.Author.Needs.{needs}
 use Rattle.rikkovan.proofs.lpsys.rikkovan_set_lpsys_div.Statement.{statement}

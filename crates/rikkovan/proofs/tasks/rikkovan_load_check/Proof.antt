@@ -1,4 +1,4 @@
--- `rikkovan::tasks::rikkovan_load_check` meets its contract: the word of the load check. Assumes nothing.
+-- `rikkovan::tasks::rikkovan_load_check` meets its contract: the word of the load check.
 use mathlib.Core.Path.{ap, _∙_}
 use borrow.Author.Needs.{needs}
 use Rattle.load.specs.check.{checkWord}

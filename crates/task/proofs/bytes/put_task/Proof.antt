@@ -1,4 +1,4 @@
--- `task::bytes::put_task` meets its contract: the id, and two numbers after it. Assumes nothing.
+-- `task::bytes::put_task` meets its contract: the id, and two numbers after it.
 use mathlib.Core.Path.{_∙_}
 use Rattle.task.proofs.bytes.Laws.{task-laid}
 use native.Mathlib.Omega.{arith}

@@ -1,4 +1,4 @@
--- `task::bytes::read` meets its contract: as many tasks as the record counts, from their place on. Assumes nothing.
+-- `task::bytes::read` meets its contract: as many tasks as the record counts, from their place on.
 use borrow.Author.Needs.{needs}
 use Rattle.task.specs.bytes.{tasksIn, placesIn}
 use Rattle.task.proofs.bytes.read.Statement.{statement}

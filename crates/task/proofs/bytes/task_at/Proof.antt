@@ -1,4 +1,4 @@
--- `task::bytes::task_at` meets its contract: the id, and two numbers after it. Assumes nothing.
+-- `task::bytes::task_at` meets its contract: the id, and two numbers after it.
 use Rattle.task.proofs.bytes.Laws.{task-at}
 use borrow.Author.Needs.{needs}
 use Rattle.task.proofs.bytes.task_at.Statement.{statement}

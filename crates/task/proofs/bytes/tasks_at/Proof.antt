@@ -1,5 +1,5 @@
 -- `task::bytes::tasks_at` meets its contract. The loop's invariant: the places passed hold the tasks read, and the others are
--- empty. Assumes nothing.
+-- empty.
 use Prim.Native.Nat.{_+_, _*_, _-_, _≤_}
 use mathlib.Core.Path.{_≡_, refl}
 use borrow.Author.Needs.{needs}

@@ -1,5 +1,4 @@
 -- `task::bytes::write` meets its contract. The loop's invariant: the tasks passed stand at their places, and all else is as it was.
--- Assumes nothing.
 use Rattle.task.proofs.bytes.Laws.{task-length}
 use Prim.Native.Nat.{_+_, _*_, _-_, _≤_}
 use mathlib.Core.Path.{_≡_, sym, ap, _∙_}

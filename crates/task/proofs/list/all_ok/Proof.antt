@@ -1,5 +1,4 @@
 -- `task::list::all_ok` meets its contract. The loop's invariant: the tasks passed are right, so the answer is that of the rest.
--- Assumes nothing.
 use mathlib.Core.Bool.{true, false}
 use Prim.Native.Nat.{_*_, _-_, _≤_}
 use mathlib.Core.Path.{_≡_, refl, ap, sym, _∙_}

@@ -1,5 +1,5 @@
 -- `task::list::distinct` meets its contract. The loop's invariant: no task passed has the id of a later one, so the answer is that
--- of the rest. Assumes nothing.
+-- of the rest.
 use Prim.Native.Nat.{_+_, _*_, _-_, _≤_}
 use mathlib.Core.Path.{_≡_, refl, sym, _∙_}
 use mathlib.Core.Bool.{true, false}

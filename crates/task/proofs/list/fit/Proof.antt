@@ -1,4 +1,4 @@
--- `task::list::fit` meets its contract: what is lent of the record are the bytes from its tasks on. Assumes nothing.
+-- `task::list::fit` meets its contract: what is lent of the record are the bytes from its tasks on.
 use borrow.Author.Tests.{not-true, not-false}
 use borrow.Author.Needs.{needs}
 use Rattle.record.proofs.Bytes.{rest-whole}

@@ -1,5 +1,4 @@
 -- `task::list::has_id` meets its contract. The loop's invariant: no task passed has the id, so the answer is that of the rest.
--- Assumes nothing.
 use Prim.Native.Nat.{_*_, _-_, _≤_}
 use mathlib.Core.Path.{_≡_, refl, sym, _∙_}
 use borrow.Author.Needs.{needs}

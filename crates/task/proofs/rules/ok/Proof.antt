@@ -1,4 +1,4 @@
--- `task::rules::ok` meets its contract: each test that led to a return decides its part of the rule. Assumes nothing.
+-- `task::rules::ok` meets its contract: each test that led to a return decides its part of the rule.
 use Rattle.task.proofs.Tests.{ok-long}
 use borrow.Author.Tests.{eq-eqb, ne-eqb}
 use native.Mathlib.Omega.{arith}

@@ -1,5 +1,4 @@
 -- `text::fields::decode_pairs` meets its contract. The loop's invariant: the buffer keeps its length, and the bytes so far fit it.
--- Assumes nothing.
 use borrow.Author.Tests.{ltb-true}
 use borrow.Author.Needs.{needs}
 use Prim.Native.Nat.{_-_, _≤_}

@@ -1,4 +1,4 @@
--- `text::fields::end_of` is safe and ends. Assumes nothing.
+-- `text::fields::end_of` is safe and ends.
 use borrow.Author.Needs.{needs}
 use Prim.Native.Nat.{_-_}
 use lib.ListN.{length}

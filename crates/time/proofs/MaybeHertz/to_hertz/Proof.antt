@@ -1,4 +1,4 @@
--- `time::MaybeHertz::to_hertz` meets its contract: the test on 0 picks the case of `found`. Assumes nothing.
+-- `time::MaybeHertz::to_hertz` meets its contract: the test on 0 picks the case of `found`.
 use borrow.Author.Tests.{eq-eqb, ne-eqb}
 use Rattle.time.specs.MaybeHertz.{found}
 use Rattle.time.proofs.MaybeHertz.to_hertz.Statement.{statement}

@@ -1,4 +1,4 @@
--- `time::arithmetic::div` meets its contract: the test on the divisor picks the case of `quotient`. Assumes nothing.
+-- `time::arithmetic::div` meets its contract: the test on the divisor picks the case of `quotient`.
 use borrow.Author.Tests.{eq-eqb, ne-eqb}
 use Rattle.time.specs.arithmetic.{quotient}
 use borrow.Author.Needs.{needs}

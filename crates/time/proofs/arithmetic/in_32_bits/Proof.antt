@@ -1,4 +1,4 @@
--- `time::arithmetic::in_32_bits` meets its contract: the test picks the case of `exact`. Assumes nothing.
+-- `time::arithmetic::in_32_bits` meets its contract: the test picks the case of `exact`.
 use native.Mathlib.Omega.{arith}
 use borrow.Author.Tests.{lt-ltb, le-ltb}
 use Rattle.time.specs.arithmetic.{exact}

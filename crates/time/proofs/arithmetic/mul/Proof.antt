@@ -1,4 +1,4 @@
--- `time::arithmetic::mul` meets its contract: the product of two numbers of 32 bits fits 64. Assumes nothing.
+-- `time::arithmetic::mul` meets its contract: the product of two numbers of 32 bits fits 64.
 use Rattle.time.proofs.arithmetic.Product.{product-fits}
 use borrow.Author.Needs.{needs}
 use Rattle.time.proofs.arithmetic.mul.Statement.{statement}

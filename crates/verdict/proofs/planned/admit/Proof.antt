@@ -1,4 +1,4 @@
--- `verdict::planned::admit` meets its contract: the bytes are decoded, then judged. Assumes nothing.
+-- `verdict::planned::admit` meets its contract: the bytes are decoded, then judged.
 use mathlib.Core.Path.{sym, _∙_}
 use Rattle.plan.proofs.bytes.RoundTrip.{read-legal}
 use Rattle.verdict.proofs.planned.Plans.{planned-unread, planned-read}

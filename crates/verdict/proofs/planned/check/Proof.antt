@@ -1,4 +1,4 @@
--- `verdict::planned::check` meets its contract: the bytes are decoded, then judged. Assumes nothing.
+-- `verdict::planned::check` meets its contract: the bytes are decoded, then judged.
 use mathlib.Core.Path.{sym, ap, _∙_}
 use Rattle.plan.proofs.bytes.RoundTrip.{read-legal}
 use Rattle.verdict.specs.Verdict.{numberOf}

@@ -1,4 +1,4 @@
--- `verdict::planned::judge` meets its contract. Assumes nothing.
+-- `verdict::planned::judge` meets its contract.
 use mathlib.Core.Path.{sym, ap, _∙_}
 use Rattle.verdict.specs.planned.{plannedBy}
 use borrow.Author.Needs.{needs}

@@ -1,4 +1,4 @@
--- `verdict::planned::number` meets its contract. Assumes nothing.
+-- `verdict::planned::number` meets its contract.
 use mathlib.Core.Path.{sym, ap, _∙_}
 use Rattle.verdict.specs.Verdict.{numberOf}
 use borrow.Author.Needs.{needs}

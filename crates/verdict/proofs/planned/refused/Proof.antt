@@ -1,4 +1,4 @@
--- `verdict::planned::refused` meets its contract. Assumes nothing.
+-- `verdict::planned::refused` meets its contract.
 use mathlib.Core.Path.{refl, sym, ap, _∙_}
 use Rattle.plan.specs.bytes.{planOf}
 use Rattle.plan.proofs.bytes.RoundTrip.{plan-back}

@@ -1,4 +1,4 @@
--- `verdict::tests::frequency_refusal` meets its contract: the first test that finds its fault gives the number. Assumes nothing.
+-- `verdict::tests::frequency_refusal` meets its contract: the first test that finds its fault gives the number.
 use Prim.Native.Nat.{ℕ}
 use mathlib.Core.Path.{_≡_, sym, _∙_}
 use mathlib.Core.Bool.{Bool, true, false}

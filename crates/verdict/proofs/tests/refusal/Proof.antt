@@ -1,4 +1,4 @@
--- `verdict::tests::refusal` meets its contract: the first test that finds its fault gives the number. Assumes nothing.
+-- `verdict::tests::refusal` meets its contract: the first test that finds its fault gives the number.
 use mathlib.Core.Path.{_≡_, sym, _∙_}
 use mathlib.Core.Bool.{false}
 use Rattle.record.specs.Refusals.{firstOf}

@@ -1,4 +1,4 @@
--- `waits::hxt48::set_lpsys_hxt48` meets its contract: the flag alone changes. Assumes nothing.
+-- `waits::hxt48::set_lpsys_hxt48` meets its contract: the flag alone changes.
 use native.Mathlib.Omega.{arith}
 use mathlib.Core.Path.{refl}
 use Rattle.journal.specs.Run.{withLpsysHxt48}

@@ -1,4 +1,4 @@
--- `dvfs::hpsys::HpsysDvfsMode::from_frequency` meets its contract: the tests pick the case of `modeOf`. Assumes nothing.
+-- `dvfs::hpsys::HpsysDvfsMode::from_frequency` meets its contract: the tests pick the case of `modeOf`.
 use borrow.Author.Tests.{le-leb, lt-leb}
 use Rattle.dvfs.specs.Hpsys.{modeOf}
 use Rattle.dvfs.proofs.hpsys.HpsysDvfsMode.from_frequency.Statement.{statement}

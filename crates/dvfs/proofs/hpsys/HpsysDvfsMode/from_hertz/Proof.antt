@@ -1,4 +1,4 @@
--- `dvfs::hpsys::HpsysDvfsMode::from_hertz` meets its contract. Assumes nothing.
+-- `dvfs::hpsys::HpsysDvfsMode::from_hertz` meets its contract.
 use borrow.Author.Needs.{needs}
 use Rattle.dvfs.proofs.hpsys.HpsysDvfsMode.from_hertz.Statement.{statement}
 use Rattle.dvfs.proofs.hpsys.HpsysDvfsMode.from_hertz.Tie as tie

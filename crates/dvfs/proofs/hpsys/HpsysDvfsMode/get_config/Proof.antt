@@ -1,4 +1,4 @@
--- `dvfs::hpsys::HpsysDvfsMode::get_config` meets its contract: the table at the mode's number. Assumes nothing.
+-- `dvfs::hpsys::HpsysDvfsMode::get_config` meets its contract: the table at the mode's number.
 use Rattle.dvfs.proofs.Tables.{row-at}
 use borrow.Author.Needs.{needs}
 use Rattle.dvfs.proofs.hpsys.HpsysDvfsMode.get_config.Statement.{statement}

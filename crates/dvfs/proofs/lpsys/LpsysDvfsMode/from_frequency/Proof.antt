@@ -1,4 +1,4 @@
--- `dvfs::lpsys::LpsysDvfsMode::from_frequency` meets its contract: the tests pick the case of `lpsysModeOf`. Assumes nothing.
+-- `dvfs::lpsys::LpsysDvfsMode::from_frequency` meets its contract: the tests pick the case of `lpsysModeOf`.
 use borrow.Author.Tests.{le-leb, lt-leb}
 use Rattle.dvfs.specs.lpsys.{lpsysModeOf}
 use Rattle.dvfs.proofs.lpsys.LpsysDvfsMode.from_frequency.Statement.{statement}

@@ -1,4 +1,4 @@
--- `dvfs::lpsys::LpsysDvfsMode::from_hertz` meets its contract. Assumes nothing.
+-- `dvfs::lpsys::LpsysDvfsMode::from_hertz` meets its contract.
 use borrow.Author.Needs.{needs}
 use Rattle.dvfs.proofs.lpsys.LpsysDvfsMode.from_hertz.Statement.{statement}
 use Rattle.dvfs.proofs.lpsys.LpsysDvfsMode.from_hertz.Tie as tie

@@ -1,4 +1,4 @@
--- `dvfs::lpsys::LpsysDvfsMode::get_config` meets its contract: the table at the mode's number. Assumes nothing.
+-- `dvfs::lpsys::LpsysDvfsMode::get_config` meets its contract: the table at the mode's number.
 use Rattle.dvfs.proofs.lpsys.Tables.{lpsys-row-at}
 use borrow.Author.Needs.{needs}
 use Rattle.dvfs.proofs.lpsys.LpsysDvfsMode.get_config.Statement.{statement}

@@ -1,4 +1,4 @@
--- `load::check::Checked::word` meets its contract: the test says which case of `checkWord` holds. Assumes nothing.
+-- `load::check::Checked::word` meets its contract: the test says which case of `checkWord` holds.
 use borrow.Author.Needs.{needs}
 use borrow.Author.Tests.{eq-eqb, ne-eqb}
 use Rattle.load.specs.check.{checkWord}

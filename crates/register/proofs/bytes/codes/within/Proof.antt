@@ -1,4 +1,4 @@
--- `register::bytes::codes::within` meets its contract: the parts that are compared are those of the contract. Assumes nothing.
+-- `register::bytes::codes::within` meets its contract: the parts that are compared are those of the contract.
 use Rattle.register.specs.Codes.{largest}
 use borrow.Author.Needs.{needs}
 use Rattle.register.proofs.bytes.codes.within.Statement.{statement}

@@ -1,5 +1,5 @@
 -- `text::lines::Reader::next_line` meets its contract. The loop's invariant: the buffers keep their lengths, the reader stays within
--- its block, and the bytes so far fit the line buffer, whose rest is the measure. Assumes nothing.
+-- its block, and the bytes so far fit the line buffer, whose rest is the measure.
 use borrow.Author.Needs.{needs}
 use Prim.Native.Nat.{_-_, _≤_}
 use mathlib.Core.Path.{_≡_}
