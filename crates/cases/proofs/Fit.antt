@@ -43,11 +43,11 @@ use Rattle.guard_change.specs.Change.{change}
 use Rattle.guard.specs.Guard.{changeCall}
 
 -- the word of bytes a, b, c put into register `n` of a head
-abbrev put : ℕ → ℕ → ℕ → ℕ → Head → Head
+abbrev pub put : ℕ → ℕ → ℕ → ℕ → Head → Head
 put n a b c h = stored h n (wordOf a b c)
 
 -- a fit head: the core at 240 MHz from DLL1 on supply S with the volts of S1, LPSYS at 48 MHz from HRC48 on supply S, flash on Peri
-abbrev sound : Head
+abbrev pub sound : Head
 sound = put SYSCLK 0 0 3 (put DLL1 1 0 9 (put BUCK_VOUT 0 0 15 (put HPSYS_VOUT 0 0 13 (put LPSYS_SUPPLY 0 0 1 (withReady true true false blank)))))
 
 -- the same with the core on HXT48

@@ -1,3 +1,4 @@
 pub mod Cases
 pub mod Rails
 pub mod Fit
+pub mod Orders
