@@ -46,13 +46,14 @@ init_rest flash selects Rest
 clock_init core Init Told
 clock_config calibrate init reconfigure
 ## The guarded change
-fit rail Fit
+fit rail Fit Unfit
 guard_steps peak supply flash Steps
 guard_change Change
 guard tests Guard
 ## Tasks
 load Load check
 booking tests Booking Release
+fit_reading Reading
 ## Demand 3
 lpsys_request Safe
 claim Moment Claim joined

@@ -1,2 +1,3 @@
 pub mod Fit
+pub mod Unfit
 pub mod rail

@@ -7,6 +7,7 @@ mod tasks;
 ghost use mathlib.Core.Path.{_≡_};
 ghost use Rattle.head.specs.Record.{headRefusal, headOf};
 ghost use Rattle.readings.specs.Clocks.{clocksOf, lpsysOf, unlessRefused};
+ghost use Rattle.fit_reading.specs.Reading.{fitOf};
 ghost use Rattle.verdict.specs.Verdict.{verdict, numberOf};
 ghost use Rattle.call.specs.word.{packed};
 
@@ -34,4 +35,13 @@ pub extern "C" fn rikkovan_read_lpsys(head: &[u8], lpsys: &mut [u32; 6]) -> u64
     ensures { λ _. ⌜ now (lpsys .exit) ≡ unlessRefused (now (head .entry)) (lpsysOf (headOf (now (head .entry)))) (now (lpsys .entry)) ⌝ }
 {
     call::word::pack(readings::read_lpsys(head, lpsys), 0, 0, 0)
+}
+
+// The rail limit, the load, and the first clause of a fit head that does not hold, 0 for none; on a refusal `fit` stays.
+#[no_mangle]
+pub extern "C" fn rikkovan_read_fit(head: &[u8], fit: &mut [u64; 3]) -> u64
+    ensures { λ r. ⌜ r ≡ packed (headRefusal (now (head .entry))) 0 0 0 ⌝ }
+    ensures { λ _. ⌜ now (fit .exit) ≡ unlessRefused (now (head .entry)) (fitOf (headOf (now (head .entry)))) (now (fit .entry)) ⌝ }
+{
+    call::word::pack(fit_reading::read_fit(head, fit), 0, 0, 0)
 }
