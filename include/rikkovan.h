@@ -695,6 +695,53 @@ uint64_t rikkovan_read_lpsys(const uint8_t *head, uint64_t head_len,
                              uint32_t lpsys[RIKKOVAN_RESTRICT RIKKOVAN_LPSYS_CLOCKS]);
 
 /*
+ * What rikkovan_read_fit reads, by its index: the highest HCLK that the active supply carries, in
+ * Hz; the load of the booked tasks, in cycles per second; an enum rikkovan_unfit.
+ */
+enum rikkovan_fit { RIKKOVAN_FIT_RAIL_LIMIT, RIKKOVAN_FIT_LOAD, RIKKOVAN_FIT_UNFIT };
+#define RIKKOVAN_FIT_NUMBERS 3
+
+/* Why a head is not fit for a guarded change, which is described below: the first that holds. */
+#define RIKKOVAN_UNFITS(ROW) \
+    ROW(1, RIKKOVAN_UNFIT_HCLK_UNREADABLE, "HCLK cannot be read") \
+    ROW(2, RIKKOVAN_UNFIT_HCLK, "HCLK is above the rail limit") \
+    ROW(3, RIKKOVAN_UNFIT_MPI1, "flash 1 is on a DLL that is off") \
+    ROW(4, RIKKOVAN_UNFIT_MPI2, "flash 2 is on a DLL that is off") \
+    ROW(5, RIKKOVAN_UNFIT_LPSYS_SOURCE, "the clock of the LPSYS select is not ready") \
+    ROW(6, RIKKOVAN_UNFIT_LPSYS_HCLK, "the LPSYS HCLK is above 24 MHz on supply D")
+
+enum rikkovan_unfit { RIKKOVAN_FIT = 0, RIKKOVAN_UNFITS(RIKKOVAN_ENUMERATOR_) };
+
+/* The same in words: one line of text in static storage, never NULL. */
+static inline const char *rikkovan_unfit_text(enum rikkovan_unfit unfit)
+{
+    switch (unfit) {
+    case RIKKOVAN_FIT: return "the head is fit";
+    RIKKOVAN_UNFITS(RIKKOVAN_TEXT_)
+    }
+    return "unknown number";
+}
+
+/*
+ * Reads what decides whether a guarded change or a booking is made.
+ *
+ *   head      the buffer with the record; it is only read
+ *   head_len  the number of bytes at head
+ *   fit       gets the numbers, by the index of enum rikkovan_fit; left as it was where the call is
+ *             refused
+ *
+ * Refusals: the head's.
+ */
+uint64_t rikkovan_read_fit(const uint8_t *head, uint64_t head_len,
+                           uint64_t fit[RIKKOVAN_RESTRICT RIKKOVAN_FIT_NUMBERS]);
+
+/* Why the head is not fit, in what rikkovan_read_fit reads; RIKKOVAN_FIT where it is. */
+static inline enum rikkovan_unfit rikkovan_unfit(const uint64_t fit[RIKKOVAN_FIT_NUMBERS])
+{
+    return (enum rikkovan_unfit)fit[RIKKOVAN_FIT_UNFIT];
+}
+
+/*
  * Journals
  * ========
  *
@@ -1253,6 +1300,7 @@ uint64_t rikkovan_change(uint8_t *RIKKOVAN_RESTRICT head, uint64_t head_len, con
 #define RIKKOVAN_STACK_PLAN_CHECK 256
 #define RIKKOVAN_STACK_READ_CLOCKS 1280
 #define RIKKOVAN_STACK_READ_LPSYS 1280
+#define RIKKOVAN_STACK_READ_FIT 1792
 #define RIKKOVAN_STACK_CONFIG_LPSYS_HCLK_MHZ 3328
 #define RIKKOVAN_STACK_ENSURE_SAFE_LCPU_FREQUENCY 2560
 #define RIKKOVAN_STACK_SET_LPSYS_HDIV 2560
@@ -1276,6 +1324,7 @@ uint64_t rikkovan_change(uint8_t *RIKKOVAN_RESTRICT head, uint64_t head_len, con
  */
 #define rikkovan_read_clocks(...) rikkovan_answer_of(rikkovan_read_clocks(__VA_ARGS__))
 #define rikkovan_read_lpsys(...) rikkovan_answer_of(rikkovan_read_lpsys(__VA_ARGS__))
+#define rikkovan_read_fit(...) rikkovan_answer_of(rikkovan_read_fit(__VA_ARGS__))
 #define rikkovan_config_lpsys_hclk_mhz(...) rikkovan_answer_of(rikkovan_config_lpsys_hclk_mhz(__VA_ARGS__))
 #define rikkovan_ensure_safe_lcpu_frequency(...) rikkovan_answer_of(rikkovan_ensure_safe_lcpu_frequency(__VA_ARGS__))
 #define rikkovan_set_lpsys_hdiv(...) rikkovan_answer_of(rikkovan_set_lpsys_hdiv(__VA_ARGS__))

@@ -1,4 +1,4 @@
-/* Tests the two readings and what takes an answer word apart. Prints a line for each failure. */
+/* Tests the readings and what takes an answer word apart. Prints a line for each failure. */
 #include <stdio.h>
 #include <string.h>
 
@@ -272,6 +272,7 @@ static void test_lengths(void)
 static void test_bytes(void)
 {
     uint8_t head[RIKKOVAN_HEAD_BYTES], before[RIKKOVAN_HEAD_BYTES];
+    uint64_t fit[RIKKOVAN_FIT_NUMBERS];
     struct lent lent;
     char what[48];
     int at, value;
@@ -292,6 +293,8 @@ static void test_bytes(void)
             expect(what, number == 0 ? 0 : (uint64_t)1 << 63 | number, answer.word);
             sprintf(what, "byte %d is %d: word of LPSYS", at, value);
             expect(what, answer.word, rikkovan_read_lpsys(head, sizeof head, lent.lpsys).word);
+            sprintf(what, "byte %d is %d: word of fit", at, value);
+            expect(what, answer.word, rikkovan_read_fit(head, sizeof head, fit).word);
             sprintf(what, "byte %d is %d: head unchanged", at, value);
             expect(what, 0, memcmp(head, before, sizeof head) != 0);
         }
@@ -316,6 +319,64 @@ static void test_words(void)
     expect("refused: taken", 4096, rikkovan_taken(refused));
 }
 
+/* A head that is fit, but for one register. */
+static void make_fit(uint8_t head[RIKKOVAN_HEAD_BYTES], uint32_t reg, uint32_t value)
+{
+    make_head(head, 2);
+    rikkovan_put_register(head, RIKKOVAN_REG_HPSYS_SUPPLY, RIKKOVAN_HPSYS_SUPPLY_D);
+    rikkovan_put_register(head, RIKKOVAN_REG_SET_VOUT_M, RIKKOVAN_D1_BUCK);
+    rikkovan_put_register(head, RIKKOVAN_REG_HPSYS_LDO, RIKKOVAN_D1_LDO);
+    rikkovan_put_register(head, RIKKOVAN_REG_LPSYS_SUPPLY, RIKKOVAN_LPSYS_SUPPLY_S);
+    rikkovan_put_register(head, reg, value);
+}
+
+/* Expects what is read of a head, and nothing beside the lent array. */
+static void expect_fit(const char *name, const uint8_t *head, uint64_t rail_limit,
+                       enum rikkovan_unfit unfit)
+{
+    uint64_t fit[RIKKOVAN_FIT_NUMBERS + 2] = {BEFORE, BEFORE, BEFORE, BEFORE, BEFORE};
+
+    expect(name, 1, (uint64_t)rikkovan_done(rikkovan_read_fit(head, RIKKOVAN_HEAD_BYTES, fit + 1)));
+    expect(name, rail_limit, fit[1 + RIKKOVAN_FIT_RAIL_LIMIT]);
+    expect(name, 2 * MHZ, fit[1 + RIKKOVAN_FIT_LOAD]);
+    expect(name, unfit, rikkovan_unfit(fit + 1));
+    expect(name, BEFORE, fit[0]);
+    expect(name, BEFORE, fit[RIKKOVAN_FIT_NUMBERS + 1]);
+}
+
+static void test_fit(void)
+{
+    static const struct {
+        uint32_t reg, value;
+        uint64_t rail_limit;
+        enum rikkovan_unfit unfit;
+    } cases[] = {
+        {RIKKOVAN_REG_SYSCLK, RIKKOVAN_CORE_HXT48, 48 * MHZ, RIKKOVAN_FIT},
+        {RIKKOVAN_REG_SYSCLK, RIKKOVAN_CORE_DBL96, 48 * MHZ, RIKKOVAN_UNFIT_HCLK_UNREADABLE},
+        {RIKKOVAN_REG_HPSYS_LDO, RIKKOVAN_D0_LDO, 24 * MHZ, RIKKOVAN_UNFIT_HCLK},
+        {RIKKOVAN_REG_HPSYS_SUPPLY, RIKKOVAN_HPSYS_SUPPLY_S, 0, RIKKOVAN_UNFIT_HCLK},
+        {RIKKOVAN_REG_FLASH, RIKKOVAN_VALUE(0, 1, 2), 48 * MHZ, RIKKOVAN_UNFIT_MPI1},
+        {RIKKOVAN_REG_FLASH, RIKKOVAN_VALUE(0, 0, 2), 48 * MHZ, RIKKOVAN_UNFIT_MPI2},
+        {RIKKOVAN_REG_LPSYS_SUPPLY, RIKKOVAN_LPSYS_SUPPLY_D, 48 * MHZ, RIKKOVAN_UNFIT_LPSYS_HCLK},
+    };
+    uint8_t head[RIKKOVAN_HEAD_BYTES];
+    uint64_t fit[RIKKOVAN_FIT_NUMBERS] = {BEFORE, BEFORE, BEFORE};
+    size_t k;
+
+    for (k = 0; k < sizeof cases / sizeof cases[0]; k++) {
+        make_fit(head, cases[k].reg, cases[k].value);
+        expect_fit(rikkovan_unfit_text(cases[k].unfit), head, cases[k].rail_limit, cases[k].unfit);
+    }
+    make_fit(head, RIKKOVAN_REG_LPSYS_SYSCLK, RIKKOVAN_LPSYS_HRC48);
+    rikkovan_put_flag(head, RIKKOVAN_FLAG_HRC48, RIKKOVAN_NOT_READY);
+    expect_fit("LPSYS source", head, 48 * MHZ, RIKKOVAN_UNFIT_LPSYS_SOURCE);
+    head[RIKKOVAN_HEAD_AT_VERSION] = 2;
+    expect("fit of a refused head", RIKKOVAN_REFUSED_VERSION,
+           rikkovan_refusal(rikkovan_read_fit(RIKKOVAN_LEND(head), fit)));
+    for (k = 0; k < RIKKOVAN_FIT_NUMBERS; k++)
+        expect("left by a refusal", BEFORE, fit[k]);
+}
+
 /* The names of the frequencies stand for 0 to 14 and 0 to 5. */
 static void test_names(void)
 {
@@ -332,6 +393,7 @@ int main(void)
     test_lengths();
     test_bytes();
     test_words();
+    test_fit();
     test_names();
     return failures != 0;
 }

@@ -1,7 +1,8 @@
 #include "fuzz.h"
 
-const size_t element_size[BUFFERS] = {1, 1, 1, sizeof(uint32_t), sizeof(uint32_t),
-                                      sizeof(uint16_t)};
+const size_t element_size[BUFFERS] = {
+    1, 1, 1, sizeof(uint32_t), sizeof(uint64_t), sizeof(uint32_t), sizeof(uint16_t),
+};
 
 uint64_t answered[CALLS][MOST_REFUSAL + 1];
 
@@ -20,6 +21,11 @@ static uint64_t read_clocks(const struct lent *lent)
 static uint64_t read_lpsys(const struct lent *lent)
 {
     return rikkovan_read_lpsys(LENT(HEAD), lent->at[CLOCKS]).word;
+}
+
+static uint64_t read_fit(const struct lent *lent)
+{
+    return rikkovan_read_fit(LENT(HEAD), lent->at[FIT]).word;
 }
 
 static uint64_t config_lpsys(const struct lent *lent)
@@ -117,6 +123,7 @@ static uint64_t change(const struct lent *lent)
 #define P LENDS(PLAN)
 #define T LENDS(TASKS)
 #define C LENDS(CLOCKS)
+#define F LENDS(FIT)
 #define J LENDS(JOURNAL)
 #define A LENDS(ANSWERS)
 
@@ -130,6 +137,7 @@ const struct call calls[CALLS] = {
     {"rikkovan_plan_check", plan_check, P, P, 0, PLANS},
     {"rikkovan_read_clocks", read_clocks, H | C, H, 0, HEADS},
     {"rikkovan_read_lpsys", read_lpsys, H | C, H, 0, HEADS},
+    {"rikkovan_read_fit", read_fit, H | F, H, 0, HEADS},
     {"rikkovan_config_lpsys_hclk_mhz", config_lpsys, H | J, 0, 4, JOURNALS | R(15) | R(34)},
     {"rikkovan_ensure_safe_lcpu_frequency", ensure_safe, H | J, 0, 4, JOURNALS | R(43)},
     {"rikkovan_set_lpsys_hdiv", set_hdiv, H | J, 0, 1, JOURNALS},

@@ -180,6 +180,20 @@ static void check_clocks(const struct made *made)
     }
 }
 
+static void check_fit(const struct made *made)
+{
+    const uint64_t *fit = made->left->at[FIT];
+    const uint8_t *head = made->given->at[HEAD];
+
+    if (made->refusal != 0) {
+        expect(made, is_same_from(made, FIT, 0), "fit of a refused call");
+        return;
+    }
+    expect(made, fit[RIKKOVAN_FIT_RAIL_LIMIT] == model_rail_limit(head), "not the rail limit");
+    expect(made, fit[RIKKOVAN_FIT_LOAD] == model_booked_load(head), "not the load");
+    expect(made, rikkovan_unfit(fit) == model_unfit(head), "not what the head lacks");
+}
+
 /* Of a fit head: every moment of these calls is fit, and a change ends as the header says. */
 static void check_moments(const struct made *made)
 {
@@ -265,6 +279,8 @@ void check_call(enum which which, const struct lent *given, uint64_t answer,
     check_head(&made);
     if (lends(&made, CLOCKS))
         check_clocks(&made);
+    if (lends(&made, FIT))
+        check_fit(&made);
     check_guarded(&made);
 }
 

@@ -39,7 +39,7 @@ void draw_tasks(struct input *input, uint8_t *tasks, unsigned count);
 void draw_answers(struct input *input, uint16_t *answers, size_t len);
 
 /* What may be lent to a call. No length drawn is above MOST_LENT. */
-enum buffer { HEAD, PLAN, TASKS, CLOCKS, JOURNAL, ANSWERS, BUFFERS };
+enum buffer { HEAD, PLAN, TASKS, CLOCKS, FIT, JOURNAL, ANSWERS, BUFFERS };
 #define LENDS(buffer) (1u << (buffer))
 #define MOST_LENT 65537u
 
@@ -58,6 +58,7 @@ enum which {
     PLAN_CHECK,
     READ_CLOCKS,
     READ_LPSYS,
+    READ_FIT,
     CONFIG_LPSYS,
     ENSURE_SAFE,
     SET_HDIV,
@@ -110,6 +111,8 @@ uint32_t model_tasks_refusal(const uint8_t *tasks, unsigned count);
 uint64_t model_share(uint32_t cycles, uint32_t period_us);
 uint64_t model_load(const uint8_t *tasks, unsigned count);
 uint64_t model_booked_load(const uint8_t *head);
+uint32_t model_rail_limit(const uint8_t *head);
+enum rikkovan_unfit model_unfit(const uint8_t *head);
 int model_is_fit(const uint8_t *head);
 uint8_t largest_in_register(unsigned reg, unsigned byte);
 

@@ -130,7 +130,7 @@ uint32_t model_plan_hclk(const uint8_t *plan)
     return divided(hz, plan[RIKKOVAN_PLAN_AT_HDIV]);
 }
 
-static uint32_t rail_limit(const uint8_t *head)
+uint32_t model_rail_limit(const uint8_t *head)
 {
     uint32_t buck = byte_c(head, RIKKOVAN_REG_BUCK_VOUT);
     uint32_t ldo = byte_c(head, RIKKOVAN_REG_HPSYS_VOUT);
@@ -153,13 +153,28 @@ static int flash_is_off(const uint8_t *head, uint8_t select)
            (select == RIKKOVAN_MPI_DLL2 && head[RIKKOVAN_HEAD_AT_A(RIKKOVAN_REG_DLL2)] == 0);
 }
 
-int model_is_fit(const uint8_t *head)
+enum rikkovan_unfit model_unfit(const uint8_t *head)
 {
     const uint8_t *flash = head + RIKKOVAN_HEAD_AT_A(RIKKOVAN_REG_FLASH);
     uint32_t hclk = model_hclk(head), lpsys = model_lpsys_hclk(head);
 
-    return hclk != 0 && hclk <= rail_limit(head) && !flash_is_off(head, flash[1]) &&
-           !flash_is_off(head, flash[2]) && lpsys != 0 &&
-           (lpsys <= RIKKOVAN_LPSYS_D_MOST_HZ ||
-            byte_c(head, RIKKOVAN_REG_LPSYS_SUPPLY) == RIKKOVAN_LPSYS_SUPPLY_S);
+    if (hclk == 0)
+        return RIKKOVAN_UNFIT_HCLK_UNREADABLE;
+    if (hclk > model_rail_limit(head))
+        return RIKKOVAN_UNFIT_HCLK;
+    if (flash_is_off(head, flash[1]))
+        return RIKKOVAN_UNFIT_MPI1;
+    if (flash_is_off(head, flash[2]))
+        return RIKKOVAN_UNFIT_MPI2;
+    if (lpsys == 0)
+        return RIKKOVAN_UNFIT_LPSYS_SOURCE;
+    if (lpsys > RIKKOVAN_LPSYS_D_MOST_HZ &&
+        byte_c(head, RIKKOVAN_REG_LPSYS_SUPPLY) != RIKKOVAN_LPSYS_SUPPLY_S)
+        return RIKKOVAN_UNFIT_LPSYS_HCLK;
+    return RIKKOVAN_FIT;
+}
+
+int model_is_fit(const uint8_t *head)
+{
+    return model_unfit(head) == RIKKOVAN_FIT;
 }

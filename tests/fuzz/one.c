@@ -6,13 +6,14 @@
 struct storage {
     uint8_t head[MOST_LENT], plan[MOST_LENT], tasks[MOST_LENT];
     uint32_t clocks[RIKKOVAN_CLOCKS], journal[MOST_LENT];
+    uint64_t fit[RIKKOVAN_FIT_NUMBERS];
     uint16_t answers[MOST_LENT];
 };
 
 static struct lent lent_from(struct storage *storage)
 {
     struct lent lent = {{storage->head, storage->plan, storage->tasks, storage->clocks,
-                         storage->journal, storage->answers},
+                         storage->fit, storage->journal, storage->answers},
                         {0}, {0}, {0}};
 
     return lent;
@@ -46,6 +47,11 @@ static void draw_lent(struct input *input, struct storage *storage, enum buffer 
         *len = draw_length(input, tasks * RIKKOVAN_TASK_BYTES);
         draw_tasks(input, storage->tasks, (unsigned)tasks);
         fill_past(storage->tasks, tasks * RIKKOVAN_TASK_BYTES, *len);
+        break;
+    case FIT:
+        *len = RIKKOVAN_FIT_NUMBERS;
+        for (k = 0; k < *len; k++)
+            storage->fit[k] = 1000 + k;
         break;
     case JOURNAL:
         *len = draw_length(input, RIKKOVAN_JOURNAL_WORDS);

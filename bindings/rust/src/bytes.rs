@@ -12,6 +12,7 @@
 //! ```
 
 use crate::clocks::{CLOCKS, LPSYS_CLOCKS};
+use crate::fit::FIT_NUMBERS;
 use crate::sys;
 use crate::word::Word;
 
@@ -38,6 +39,14 @@ pub fn read_clocks(head: &[u8], clocks: &mut [u32; CLOCKS]) -> Word {
 pub fn read_lpsys(head: &[u8], lpsys: &mut [u32; LPSYS_CLOCKS]) -> Word {
     let lpsys = lpsys.as_mut_ptr();
     Word(unsafe { sys::rikkovan_read_lpsys(head.as_ptr(), head.len() as u64, lpsys) })
+}
+
+/// Reads what decides whether a guarded change is made: the rail limit in Hz, the load, and the
+/// number of an [`Unfit`](crate::Unfit), 0 where the head is fit.
+#[inline]
+pub fn read_fit(head: &[u8], fit: &mut [u64; FIT_NUMBERS]) -> Word {
+    let fit = fit.as_mut_ptr();
+    Word(unsafe { sys::rikkovan_read_fit(head.as_ptr(), head.len() as u64, fit) })
 }
 
 /// Checks a list of tasks: the load, or a refusal number with bit 63 set.

@@ -2,6 +2,7 @@
 
 use crate::bytes;
 use crate::clocks::{Clocks, LpsysClocks, CLOCKS, LPSYS_CLOCKS};
+use crate::fit::{Fit, FIT_NUMBERS};
 use crate::numbered::numbered;
 use crate::refusal::Refusal;
 use crate::register::Register;
@@ -142,6 +143,24 @@ impl Head {
         let word = bytes::read_lpsys(&self.bytes, &mut clocks);
         debug_assert_eq!(word.refusal(), None);
         clocks.into()
+    }
+
+    /// What decides whether a guarded change is made: the rail limit, the load, and what the head
+    /// lacks where it is not fit.
+    ///
+    /// ```
+    /// use rikkovan::{Head, Hertz, Unfit};
+    ///
+    /// let head = Head::from_bytes(&std::fs::read("../../examples/heads/d48-low-volts.head")?)?;
+    /// assert_eq!(head.fit().rail_limit, Hertz(24_000_000));
+    /// assert_eq!(head.fit().unfit, Some(Unfit::Hclk));
+    /// # Ok::<(), Box<dyn std::error::Error>>(())
+    /// ```
+    pub fn fit(&self) -> Fit {
+        let mut fit = [0; FIT_NUMBERS];
+        let word = bytes::read_fit(&self.bytes, &mut fit);
+        debug_assert_eq!(word.refusal(), None);
+        fit.into()
     }
 
     fn task_bytes(&self) -> &[u8] {

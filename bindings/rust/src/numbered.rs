@@ -34,4 +34,30 @@ macro_rules! numbered {
     };
 }
 
-pub(crate) use numbered;
+/// The same, each with the words that C has for it.
+macro_rules! worded {
+    (
+        $(#[$about:meta])*
+        $name:ident: $type:ty {
+            $($case:ident = $number:literal, $words:literal;)*
+        }
+    ) => {
+        numbered! {
+            $(#[$about])*
+            $name: $type {
+                $(#[doc = $words] $case = $number,)*
+            }
+        }
+
+        impl $name {
+            /// The case in words: one line, the same as in C.
+            pub const fn words(self) -> &'static str {
+                match self {
+                    $(Self::$case => $words,)*
+                }
+            }
+        }
+    };
+}
+
+pub(crate) use {numbered, worded};

@@ -1,10 +1,10 @@
 //! The constants of the crate and those of `rikkovan.h`.
 
-use crate::header::{between, defined, refusals};
+use crate::header::{between, defined, rows};
 use rikkovan::rcc::{Mpisel, Perisel, Sysclk, Usbsel, Wdtsel};
 use rikkovan::{
-    Clocks, Entry, Head, Hertz, LpsysClocks, LpsysSource, Plan, Refusal, Register, Task, WaitKind,
-    CLOCKS, JOURNAL_WORDS, LPSYS_CLOCKS, MOST_ANSWERS,
+    Clocks, Entry, Head, Hertz, LpsysClocks, LpsysSource, Plan, Refusal, Register, Task, Unfit,
+    WaitKind, CLOCKS, FIT_NUMBERS, JOURNAL_WORDS, LPSYS_CLOCKS, MOST_ANSWERS,
 };
 use std::collections::BTreeMap;
 use std::fmt::Debug;
@@ -40,6 +40,7 @@ fn constants() -> BTreeMap<String, u64> {
         ("MOST_TASKS", Task::MOST),
         ("CLOCKS", CLOCKS),
         ("LPSYS_CLOCKS", LPSYS_CLOCKS),
+        ("FIT_NUMBERS", FIT_NUMBERS),
         ("JOURNAL_WORDS", JOURNAL_WORDS),
         ("MOST_ANSWERS", MOST_ANSWERS),
         ("USB_CORE", Usbsel::Sysclk.number().into()),
@@ -49,6 +50,7 @@ fn constants() -> BTreeMap<String, u64> {
         ("MPI_DLL2", Mpisel::Dll2.number().into()),
     ];
     cases!("REFUSED", Refusal)
+        .chain(cases!("UNFIT", Unfit))
         .chain(cases!("REG", Register))
         .chain(cases!("WAIT", WaitKind))
         .chain(cases!("CORE", Sysclk))
@@ -106,9 +108,9 @@ fn is_unnamed(name: &str) -> bool {
 
 #[test]
 fn constants_are_those_of_the_header() {
-    let refusals = refusals().map(|(number, name, _)| (name, number.into()));
+    let rows = rows("REFUSALS").chain(rows("UNFITS"));
     let stated = defined()
-        .chain(refusals)
+        .chain(rows.map(|(number, name, _)| (name, number.into())))
         .filter(|(name, _)| !is_unnamed(name));
     let stated: BTreeMap<String, u64> = stated.map(|(name, n)| (name.to_string(), n)).collect();
     assert_eq!(constants(), stated);

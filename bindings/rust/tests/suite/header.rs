@@ -1,6 +1,6 @@
 //! What the crate and `rikkovan.h` both state, read from the header.
 
-use rikkovan::{Plan, Refusal};
+use rikkovan::{Plan, Refusal, Unfit};
 use std::collections::BTreeSet;
 
 pub const HEADER: &str = include_str!("../../../../include/rikkovan.h");
@@ -14,9 +14,10 @@ pub fn defined() -> impl Iterator<Item = (&'static str, u64)> {
     })
 }
 
-/// The refusals of the header's table: number, name without `RIKKOVAN_`, words.
-pub fn refusals() -> impl Iterator<Item = (u32, &'static str, &'static str)> {
-    HEADER.lines().filter_map(|line| {
+/// The rows of a table of the header: number, name without `RIKKOVAN_`, words.
+pub fn rows(table: &str) -> impl Iterator<Item = (u32, &'static str, &'static str)> {
+    let table = between(&format!("#define RIKKOVAN_{table}(ROW)"), "\n\n");
+    table.lines().filter_map(|line| {
         let row = line.trim().strip_prefix("ROW(")?;
         let (number, row) = row.split_once(", RIKKOVAN_")?;
         let (name, row) = row.split_once(", \"")?;
@@ -32,7 +33,7 @@ pub fn between(from: &str, to: &str) -> &'static str {
 
 #[test]
 fn refusals_have_the_words_of_the_header() {
-    let stated: Vec<(u32, &str)> = refusals()
+    let stated: Vec<(u32, &str)> = rows("REFUSALS")
         .map(|(number, _, words)| (number, words))
         .collect();
     let ours = Refusal::ALL.iter();
@@ -40,6 +41,14 @@ fn refusals_have_the_words_of_the_header() {
         .map(|refusal| (refusal.number(), refusal.words()))
         .collect();
     assert_eq!(ours, stated);
+}
+
+#[test]
+fn what_makes_a_head_unfit_has_the_words_of_the_header() {
+    let stated = rows("UNFITS").map(|(number, _, words)| (number, words));
+    let ours = Unfit::ALL.iter();
+    let ours = ours.map(|unfit| (unfit.number(), unfit.words()));
+    assert!(ours.eq(stated));
 }
 
 #[test]

@@ -1,7 +1,7 @@
 //! Slices of every length: a call answers, and writes nothing beside what it is lent.
 
 use crate::head;
-use rikkovan::{bytes, Plan, Refusal, Word, CLOCKS, JOURNAL_WORDS, LPSYS_CLOCKS};
+use rikkovan::{bytes, Plan, Refusal, Word, CLOCKS, FIT_NUMBERS, JOURNAL_WORDS, LPSYS_CLOCKS};
 use std::ops::RangeInclusive;
 
 const LENGTHS: RangeInclusive<usize> = 0..=300;
@@ -14,9 +14,10 @@ type Call = fn(&mut [u8], &[u8], &mut [u32], &[u16]) -> Word;
 
 /// Those of tasks and readings, then those that are lent a journal, then those that are lent a
 /// plan too.
-const CALLS: [Call; 18] = [
+const CALLS: [Call; 19] = [
     |head, _, _, _| bytes::read_clocks(head, &mut [0; CLOCKS]),
     |head, _, _, _| bytes::read_lpsys(head, &mut [0; LPSYS_CLOCKS]),
+    |head, _, _, _| bytes::read_fit(head, &mut [0; FIT_NUMBERS]),
     |head, _, _, _| bytes::book(head, 1, 1, 1_000),
     |head, _, _, _| bytes::release(head, 1),
     |head, _, journal, _| bytes::config_lpsys_hclk_mhz(head, 20, journal),
@@ -37,8 +38,8 @@ const CALLS: [Call; 18] = [
     bytes::change,
 ];
 
-const FIRST_WITH_JOURNAL: usize = 4;
-const FIRST_WITH_PLAN: usize = 15;
+const FIRST_WITH_JOURNAL: usize = 5;
+const FIRST_WITH_PLAN: usize = 16;
 
 /// Makes every call with these lengths, and gives it and its word to a test.
 fn each(head_len: usize, plan_len: usize, journal_len: usize, test: impl Fn(usize, Word)) {
