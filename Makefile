@@ -27,8 +27,9 @@ RUNS = 2000000
 RANDOM_GROUPS = $(COUNT:%=--count %) $(SECONDS:%=--seconds %) $(SEED:%=--seed %)
 
 LIBRARY = target/staticlib/librikkovan.a
-PROGRAMS = target/bin/lpset target/bin/moments
+PROGRAMS = target/bin/lpset build/rikkovan
 SOURCES = crates.txt $(shell find crates -name '*.rt' -o -name '*.antt')
+PROGRAM = $(wildcard program/*.c)
 FUZZ = $(filter-out %/faults.c,$(wildcard tests/fuzz/*.c))
 PLANS = $(sort $(wildcard examples/plans/*.plan))
 TASKS = $(sort $(wildcard examples/tasks/*.tasks))
@@ -40,7 +41,7 @@ help:
 	@echo 'make run            prove the library, then check the example plans and tasks through it'
 	@echo 'make test           the whole test, with every proof'
 	@echo 'make lib            prove the library and write $(LIBRARY)'
-	@echo 'make install        install it, with header, programs and man pages (PREFIX=$(PREFIX), DESTDIR)'
+	@echo 'make install        install it, with header, programs, man pages and completion (PREFIX=$(PREFIX), DESTDIR)'
 	@echo 'make uninstall      remove what make install wrote'
 	@echo 'make test-c         test the library from C and C++'
 	@echo 'make test-rust      test the library from Rust, through bindings/rust'
@@ -67,16 +68,30 @@ build/daemon: examples/daemon.c include/rikkovan.h $(LIBRARY)
 	@mkdir -p build
 	$(CC) -std=c99 $(STRICT) $(CFLAGS) -Iinclude -o $@ examples/daemon.c $(LIBRARY)
 
-$(PROGRAMS) target/bin/replay: target/bin/%: $(SOURCES)
+build/rikkovan: $(PROGRAM) program/program.h include/rikkovan.h $(LIBRARY)
+	@mkdir -p build
+	$(CC) -std=c99 $(STRICT) $(CFLAGS) -Iinclude -o $@ $(PROGRAM) $(LIBRARY)
+
+# The program with faults while it writes.
+FAULTS = mkstemp write fchmod fsync close rename
+build/rikkovan-faults: tests/rikkovan/faults.c build/rikkovan
+	$(CC) -std=c99 $(STRICT) $(CFLAGS) -Iinclude $(FAULTS:%=-Wl,--wrap=%) -o $@ \
+		$(PROGRAM) tests/rikkovan/faults.c $(LIBRARY)
+
+build/rikkovan-sanitized: build/rikkovan
+	$(CC) -std=c99 $(STRICT) $(SANITIZE) -Iinclude -o $@ $(PROGRAM) $(LIBRARY)
+
+target/bin/lpset target/bin/replay: target/bin/%: $(SOURCES)
 	$(RT) check $*
 
-# Some of the files are refused on purpose, and the daemon's status is then 1.
-run: build/daemon target/bin/moments
-	@build/daemon $(PLANS) $(TASKS:%=--tasks %) || test $$? -eq 1
+# Some of the files are refused on purpose, and the status is then 1.
+run: build/rikkovan
+	@build/rikkovan check $(PLANS) 2>&1 || test $$? -eq 1
+	@build/rikkovan load $(TASKS) 2>&1 || test $$? -eq 1
 	@echo 'a head at 48 MHz on D taken to 240 MHz:'
-	@target/bin/moments examples/heads/d48.head examples/plans/default.plan examples/heads/second-poll.answers
+	@build/rikkovan change examples/heads/d48.head examples/plans/default.plan examples/heads/second-poll.answers
 	@echo 'a head at 240 MHz with tasks that are 110 percent of a slower plan:'
-	@target/bin/moments examples/heads/s240-tasks.head examples/plans/dll1-144.plan
+	@build/rikkovan change examples/heads/s240-tasks.head examples/plans/dll1-144.plan || test $$? -eq 1
 
 test:
 	@tools/test.sh
@@ -115,7 +130,7 @@ test-fuzz: $(LIBRARY)
 
 test-programs: $(PROGRAMS) target/bin/replay
 	@tests/lpset/run.sh
-	@tests/moments/run.sh
+	@CC='$(CC)' tests/rikkovan/run.sh
 	@tests/replay/run.sh
 
 test-oracle:
@@ -158,16 +173,18 @@ heads:
 	tools/make-heads.sh
 
 ROOT = $(DESTDIR)$(PREFIX)
-INSTALLED = include/rikkovan.h lib/librikkovan.a lib/pkgconfig/rikkovan.pc bin/lpset bin/moments \
-	share/man/man1/lpset.1 share/man/man1/moments.1 share/man/man3/rikkovan.3
+INSTALLED = include/rikkovan.h lib/librikkovan.a lib/pkgconfig/rikkovan.pc bin/lpset bin/rikkovan \
+	share/man/man1/lpset.1 share/man/man1/rikkovan.1 share/man/man3/rikkovan.3 \
+	share/bash-completion/completions/rikkovan
 
 install: $(LIBRARY) $(PROGRAMS)
 	install -d $(patsubst %/,'$(ROOT)/%',$(sort $(dir $(INSTALLED))))
 	install -m 644 include/rikkovan.h '$(ROOT)/include'
 	install -m 644 $(LIBRARY) '$(ROOT)/lib'
 	install -m 755 $(PROGRAMS) '$(ROOT)/bin'
-	install -m 644 man/lpset.1 man/moments.1 '$(ROOT)/share/man/man1'
+	install -m 644 man/lpset.1 man/rikkovan.1 '$(ROOT)/share/man/man1'
 	install -m 644 man/rikkovan.3 '$(ROOT)/share/man/man3'
+	install -m 644 program/completion.bash '$(ROOT)/share/bash-completion/completions/rikkovan'
 	sed -e 's|@PREFIX@|$(PREFIX)|' -e 's|@VERSION@|$(VERSION)|' tools/rikkovan.pc.in \
 		>'$(ROOT)/lib/pkgconfig/rikkovan.pc'
 

@@ -1,6 +1,6 @@
 #!/usr/bin/env bash
-# The whole test, run by `make test`: proves every crate, then tests the proved library from C, from
-# Rust and against the Rust. On success the last line is that of rt ci, 'N passed, 0 failed'.
+# The whole test, run by `make test`: proves every crate, then tests the programs and the proved
+# library, from C, from Rust and against the Rust. On success the last line is that of rt ci, 'N passed, 0 failed'.
 set -euo pipefail
 cd "$(dirname "$0")/.."
 exec </dev/null
@@ -101,17 +101,12 @@ await() { # FILE..
     done
 }
 
-test_programs() {
-    await log/lpset.stamp log/moments.stamp log/replay.stamp
-    low_make test-programs
-}
-
 # What uses the library, two parts at a time; the two halves of the comparison last, since they take about as long as each other.
 test_library() {
-    local parts=(lib test-c test-fuzz)
+    local parts=(lib test-programs test-c test-fuzz)
     has_cargo && parts+=(test-rust)
     can_compare && parts+=(compare-plans compare-heads)
-    await log/lpset.stamp log/moments.stamp stamp/rikkovan
+    await log/lpset.stamp log/replay.stamp stamp/rikkovan
     low_make -j2 --output-sync "${parts[@]}"
 }
 
@@ -134,13 +129,11 @@ stage 'docs/CONTRACTS.md and the sources' contracts_are_made
 stage 'a place for each definition' tools/spec.sh "$logs/spec.md"
 rm -rf target
 begin oracle test_oracle
-begin programs test_programs
 begin library test_library
 stage 'rt ci' rt_ci
 stage 'why the must-fail edits were refused' tools/refusals.sh
 stage 'tests of the oracle' end oracle
-stage 'tests of the programs' end programs
-stage 'tests of the library' end library
+stage 'tests of the library and the programs' end library
 # When the static library is written, whose line counts the axioms of all that it links.
 stage 'axioms' tools/axioms.sh
 say "all passed ($SECONDS s)"

@@ -174,7 +174,8 @@ installs() {
 # Without an environment, the installed programs need nothing of the Rattle kit.
 installed_programs() {
     (cd "$work" && env -i usr/bin/lpset) 2>&1 | grep '^usage: lpset ' &&
-        (cd "$work" && env -i usr/bin/moments) 2>&1 | grep '^usage: moments '
+        (cd "$work" && env -i usr/bin/rikkovan --version) | grep '^rikkovan ' &&
+        cmp program/completion.bash "$work/usr/share/bash-completion/completions/rikkovan"
 }
 
 installs_below_destdir() {
