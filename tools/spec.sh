@@ -25,6 +25,7 @@ journal Run Machine
 waits Found
 ## A call on lent bytes, and the word that C gets
 call Call store with_plan clocks word
+moment Moment
 ## Readings: `rcc/clock_read.rs`, `rcc/clock_lpsys.rs`
 clock_read Hpsys devices buses lpsys
 readings Clocks hclk

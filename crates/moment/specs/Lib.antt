@@ -1,2 +1,1 @@
-pub mod Megahertz
-pub mod Answers
+pub mod Moment

@@ -1,14 +1,13 @@
-// A journal entry, and a head's registers after it.
-ghost use lib.ListN.{length, drop};
+// Entries of a journal.
 ghost use mathlib.Core.Path.{_≡_};
 ghost use Prim.Native.Nat.{_/_, _%_, _<_};
-ghost use Rattle.record.specs.Items.{joined, laid};
-ghost use Rattle.register.specs.Word.{wordBytes};
-ghost use Rattle.layout.specs.Layout.{registerSize, bufferBytes};
-ghost use Rattle.register.specs.bytes.{registersIn};
-ghost use Rattle.journal.specs.Run.{applied};
+ghost use Rattle.moment.specs.Moment.{isEntry, areEntries};
 
 const VALUES: u32 = 16777216;
+
+const DELAY: u32 = 48;
+
+const WAIT: u32 = 49;
 
 // The register that an entry stores, or 48 for a delay and 49 for a wait.
 pub fn number(entry: u32) -> u32
@@ -23,23 +22,35 @@ pub fn value(entry: u32) -> u32
     entry % VALUES
 }
 
-// The registers with an entry's store put in; a delay and a wait change nothing.
-fn after(regs: [u32; 35], entry: u32) -> [u32; 35]
-    ensures { λ r. ⌜ r ≡ applied regs entry ⌝ }
+// Whether a word is a delay, a wait, or a store of what its register may hold.
+fn is_entry(word: u32) -> bool
+    ensures { λ r. ⌜ r ≡ isEntry word ⌝ }
 {
-    let mut regs = regs;
-    let n = number(entry) as usize;
-    if n < 35 {
-        regs[n] = value(entry);
+    let n = number(word);
+    if n == DELAY {
+        return true;
     }
-    regs
+    if n == WAIT {
+        return true;
+    }
+    if n == 0 {
+        return false;
+    }
+    if 35 <= n {
+        return false;
+    }
+    register::bytes::codes::fits(n as usize, value(word))
 }
 
-// Puts an entry's store into a head's bytes.
-pub fn store(entry: u32, buffer: &mut [u8])
-    requires { ⌜ length (now buffer) ≡ bufferBytes ⌝ }
-    ensures { λ _. ⌜ now (buffer .exit) ≡ laid registerSize (joined wordBytes (drop 1 (applied (registersIn (now (buffer .entry))) entry))) (now (buffer .entry)) ⌝ }
+pub fn are_entries(words: &[u32]) -> bool
+    ensures { λ r. ⌜ r ≡ areEntries (now (words .entry)) ⌝ }
 {
-    let regs = after(register::bytes::read(buffer), entry);
-    register::bytes::write(regs, buffer);
+    let mut i = 0;
+    while i < words.len() {
+        if !is_entry(words[i]) {
+            return false;
+        }
+        i += 1;
+    }
+    true
 }

@@ -7,5 +7,5 @@ pub fn read(answers: &mut [u16]) -> usize
 {
     let mut bytes = io::large_buffer();
     let count = text::file::read(3, &mut bytes);
-    moment::answers::words(&bytes[..count], answers)
+    moment_text::answers::words(&bytes[..count], answers)
 }

@@ -4,7 +4,7 @@ ghost use Rattle.head.specs.Encodable.{Encodable};
 use crate::columns::Line;
 use head::Head;
 use libc::STDOUT_FILENO;
-use moment::frequency;
+use moment_text::frequency;
 use time::Hertz;
 use time::Reading;
 

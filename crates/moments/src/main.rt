@@ -23,7 +23,7 @@ fn show(buffer: &mut [u8], entries: &[u32]) {
     let mut i = 0;
     while i < entries.len() {
         let entry = entries[i];
-        moment::entry::store(entry, buffer);
+        moment::put(buffer, &entries[i..i + 1]);
         i += 1;
         show_next(i as u64, entry, buffer);
     }

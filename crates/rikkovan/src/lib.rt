@@ -5,11 +5,13 @@ mod lpsys;
 mod tasks;
 
 ghost use mathlib.Core.Path.{_≡_};
+ghost use mathlib.Core.List.{[]};
 ghost use Rattle.head.specs.Record.{headRefusal, headOf};
 ghost use Rattle.readings.specs.Clocks.{clocksOf, lpsysOf, unlessRefused};
 ghost use Rattle.fit_reading.specs.Reading.{fitOf};
 ghost use Rattle.verdict.specs.Verdict.{verdict, numberOf};
-ghost use Rattle.call.specs.word.{packed};
+ghost use Rattle.moment.specs.Moment.{moment};
+ghost use Rattle.call.specs.word.{packed, Gives};
 
 // 0 for an accepted plan, else its refusal number.
 #[no_mangle]
@@ -44,4 +46,12 @@ pub extern "C" fn rikkovan_read_fit(head: &[u8], fit: &mut [u64; 3]) -> u64
     ensures { λ _. ⌜ now (fit .exit) ≡ unlessRefused (now (head .entry)) (fitOf (headOf (now (head .entry)))) (now (fit .entry)) ⌝ }
 {
     call::word::pack(fit_reading::read_fit(head, fit), 0, 0, 0)
+}
+
+// Puts the stores of entries into a head.
+#[no_mangle]
+pub extern "C" fn rikkovan_moment(head: &mut [u8], entries: &[u32]) -> u64
+    ensures { λ r. ⌜ Gives (moment (now (entries .entry)) (now (head .entry))) r (now (head .exit)) [] ⌝ }
+{
+    call::word::of_answer(moment::put(head, entries))
 }

@@ -1,17 +1,16 @@
--- `moments::show` meets its contract. The loop's invariant: `i` is at most the number of entries, and the buffer holds a head. The measure
--- is the rest of the entries.
+-- `moments::show` meets its contract. The loop's invariant: `i` is at most the number of entries, and the buffer keeps its length. The
+-- measure is the rest of the entries.
 use Prim.Native.Nat.{_-_, _≤_}
 use mathlib.Core.Path.{_≡_}
 use native.Mathlib.Omega.{arith}
 use lib.ListN.{length}
 use borrow.Author.Needs.{needs}
-use Rattle.head.specs.Record.{bufferBytes}
-use Rattle.call.proofs.Ending.{call-encodable, call-bytes}
+use Rattle.call.proofs.Ending.{call-encodable}
 use Rattle.moments.proofs.show.Statement.{statement}
 use Rattle.moments.proofs.show.Tie as tie
 
 abbrev Inv-loop : tie.InvT-loop
-Inv-loop buffer₀ entries i₀ buffer i = (i ≤ length entries) × ((length buffer ≡ length buffer₀) × (length buffer₀ ≡ bufferBytes))
+Inv-loop buffer₀ entries i₀ buffer i = (i ≤ length entries) × (length buffer ≡ length buffer₀)
 
 abbrev μ-loop : tie.MeasureT-loop
 μ-loop buffer₀ entries i₀ buffer i = length entries - i
@@ -35,10 +34,7 @@ first-requires c κs =
     call-encodable (after-admit-head .admit-head .ensures) (else1 .if1 .left)
 
 loop-holds : tie.Need-loop-holds Inv-loop μ-loop
-loop-holds c =
-    let else1 : tie.Else1 Inv-loop μ-loop = search in
-    let after-admit-head : tie.After-admit-head Inv-loop μ-loop = search in
-    (omega arith, (search needs, call-bytes (after-admit-head .admit-head .ensures) (else1 .if1 .left)))
+loop-holds c = search needs
 
 mul-entry : tie.Need-mul-entry Inv-loop μ-loop
 mul-entry c = search needs
@@ -46,8 +42,23 @@ mul-entry c = search needs
 shared-slice-read-entry : tie.Need-shared-slice-read-entry Inv-loop μ-loop
 shared-slice-read-entry c = search needs
 
-store-requires : tie.Need-store-requires Inv-loop μ-loop
-store-requires c κs = search needs
+add-put : tie.Need-add-put Inv-loop μ-loop
+add-put c = search needs
+
+mul-put : tie.Need-mul-put Inv-loop μ-loop
+mul-put c = search needs
+
+sub-put : tie.Need-sub-put Inv-loop μ-loop
+sub-put c = search needs
+
+part-put-start : tie.Need-part-put-start Inv-loop μ-loop
+part-put-start c = search needs
+
+part-put-end : tie.Need-part-put-end Inv-loop μ-loop
+part-put-end c = search needs
+
+put-requires : tie.Need-put-requires Inv-loop μ-loop
+put-requires c κs = search needs
 
 add-i : tie.Need-add-i Inv-loop μ-loop
 add-i c = search needs
@@ -81,7 +92,12 @@ show-spec =
     loop-holds
     mul-entry
     shared-slice-read-entry
-    store-requires
+    add-put
+    mul-put
+    sub-put
+    part-put-start
+    part-put-end
+    put-requires
     add-i
     show-next-requires
     loop-less

@@ -1,8 +1,9 @@
 // The codes of the registers and ready flags.
 ghost use mathlib.Core.Path.{_≡_};
+ghost use Prim.Native.Nat.{_<_};
 ghost use lib.ListN.{length, take, drop};
 ghost use Rattle.record.specs.Bytes.{isWithin};
-ghost use Rattle.register.specs.Codes.{largest};
+ghost use Rattle.register.specs.Codes.{largest, fitsRegister};
 ghost use Rattle.layout.specs.Layout.{registerSize, codedSize, bufferBytes};
 
 // The largest values of the bytes that have codes, and of those that may hold anything.
@@ -180,4 +181,20 @@ pub fn within(buffer: &[u8]) -> bool
         &buffer[layout::REGISTER_SIZE..layout::BOOT_MODE_AT],
         &largest,
     )
+}
+
+// Whether register `n` may hold a word of three bytes.
+pub fn fits(n: usize, word: u32) -> bool
+    requires { ⌜ (0 < n) × ((n < 35) × (word < 16777216)) ⌝ }
+    ensures { λ r. ⌜ r ≡ fitsRegister n word ⌝ }
+{
+    let bytes = [
+        crate::a(word) as u8,
+        crate::b(word) as u8,
+        crate::c(word) as u8,
+    ];
+    let largest = LARGEST;
+    let at = layout::REGISTER_SIZE * (n - 1);
+    let end = at + layout::REGISTER_SIZE;
+    record::within(&bytes, &largest[at..end])
 }

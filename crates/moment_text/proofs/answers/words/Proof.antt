@@ -1,14 +1,14 @@
--- `moment::answers::words` meets its contract. The loop's invariant: the places passed hold the words read.
+-- `moment_text::answers::words` meets its contract. The loop's invariant: the places passed hold the words read.
 use Prim.Native.Nat.{ℕ, _-_, _/_, _<_, _≤_}
 use mathlib.Core.Path.{_≡_, sym}
 use native.Mathlib.Omega.{arith}
 use lib.ListN.{length, getD, length-set}
 use lib.Seq.{length-take-le}
-use Rattle.moment.specs.Answers.{Words}
-use Rattle.moment.proofs.Answering.{wordAt, one-more}
+use Rattle.moment_text.specs.Answers.{Words}
+use Rattle.moment_text.proofs.Answering.{wordAt, one-more}
 use borrow.Author.Needs.{needs}
-use Rattle.moment.proofs.answers.words.Statement.{statement}
-use Rattle.moment.proofs.answers.words.Tie as tie
+use Rattle.moment_text.proofs.answers.words.Statement.{statement}
+use Rattle.moment_text.proofs.answers.words.Tie as tie
 
 abbrev Inv-loop : tie.InvT-loop
 Inv-loop bytes answers₀ i₀ answers i =

@@ -1,8 +1,8 @@
--- `moment::frequency::megahertz` meets its contract.
-use Rattle.moment.specs.Megahertz.{megahertzText}
+-- `moment_text::frequency::megahertz` meets its contract.
+use Rattle.moment_text.specs.Megahertz.{megahertzText}
 use borrow.Author.Needs.{needs}
-use Rattle.moment.proofs.frequency.megahertz.Statement.{statement}
-use Rattle.moment.proofs.frequency.megahertz.Tie as tie
+use Rattle.moment_text.proofs.frequency.megahertz.Statement.{statement}
+use Rattle.moment_text.proofs.frequency.megahertz.Tie as tie
 
 leading-requires : tie.Need-leading-requires
 leading-requires c κs = search needs

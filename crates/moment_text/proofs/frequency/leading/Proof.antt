@@ -1,9 +1,9 @@
--- `moment::frequency::leading` meets its contract.
+-- `moment_text::frequency::leading` meets its contract.
 use borrow.Author.Tests.{ne-eqb}
-use Rattle.moment.specs.Megahertz.{leadingOf}
+use Rattle.moment_text.specs.Megahertz.{leadingOf}
 use borrow.Author.Needs.{needs}
-use Rattle.moment.proofs.frequency.leading.Statement.{statement}
-use Rattle.moment.proofs.frequency.leading.Tie as tie
+use Rattle.moment_text.proofs.frequency.leading.Statement.{statement}
+use Rattle.moment_text.proofs.frequency.leading.Tie as tie
 
 returns : tie.Need-returns
 unfolding leadingOf

@@ -1,6 +1,6 @@
 // A frequency as text.
 ghost use mathlib.Core.Path.{_≡_};
-ghost use Rattle.moment.specs.Megahertz.{digitOf, leadingOf, megahertzText};
+ghost use Rattle.moment_text.specs.Megahertz.{digitOf, leadingOf, megahertzText};
 use time::Hertz;
 
 // The last decimal digit.

@@ -1,5 +1,5 @@
 // Answers from the bytes of a file.
-ghost use Rattle.moment.specs.Answers.{Words};
+ghost use Rattle.moment_text.specs.Answers.{Words};
 
 // Puts the 16-bit words of the bytes, high byte first, to the start of the answers as far as they
 // have room, and answers how many there are; a byte that is left over is none.

@@ -1,0 +1,2 @@
+pub mod Megahertz
+pub mod Answers
