@@ -566,8 +566,8 @@ static inline void rikkovan_put_register(uint8_t *head, uint32_t reg, uint32_t v
  *   bits 48 to 62  the number of answers taken
  *   bit 63         1 where the call is refused
  *
- * The value is 0 where nothing else is said of the call. Readings, bookings and releases write no
- * entry and take no answer, so their word is 0 where they are done.
+ * The value is 0 where nothing else is said of the call. Readings, bookings, releases and
+ * rikkovan_moment write no entry and take no answer, so their word is 0 where they are done.
  *
  * A head is refused, by the first of these tests that fails, with
  *
@@ -833,6 +833,20 @@ static inline void rikkovan_put_entry(uint8_t *head, uint32_t entry)
     if (rikkovan_is_store(entry))
         rikkovan_put_register(head, rikkovan_entry_number(entry), rikkovan_entry_value(entry));
 }
+
+/*
+ * Puts entries into the registers of a head, one after the other, as rikkovan_put_entry does. So
+ * the head that a call got, with the first entries of its journal, has the registers of that
+ * moment.
+ *
+ *   head, head_len        the buffer with the record, and the number of bytes at head
+ *   entries, entries_len  the entries, and their number, any; they are only read
+ *
+ * Refusals, in this order: the head's, and RIKKOVAN_REFUSED_CODE for a word that is no store, delay
+ * or wait, and for a store of what its register may not hold. A refusal changes nothing.
+ */
+uint64_t rikkovan_moment(uint8_t *RIKKOVAN_RESTRICT head, uint64_t head_len,
+                         const uint32_t *entries, uint64_t entries_len);
 
 /*
  * Answers
@@ -1301,6 +1315,7 @@ uint64_t rikkovan_change(uint8_t *RIKKOVAN_RESTRICT head, uint64_t head_len, con
 #define RIKKOVAN_STACK_READ_CLOCKS 1280
 #define RIKKOVAN_STACK_READ_LPSYS 1280
 #define RIKKOVAN_STACK_READ_FIT 1792
+#define RIKKOVAN_STACK_MOMENT 2048
 #define RIKKOVAN_STACK_CONFIG_LPSYS_HCLK_MHZ 3328
 #define RIKKOVAN_STACK_ENSURE_SAFE_LCPU_FREQUENCY 2560
 #define RIKKOVAN_STACK_SET_LPSYS_HDIV 2560
@@ -1325,6 +1340,7 @@ uint64_t rikkovan_change(uint8_t *RIKKOVAN_RESTRICT head, uint64_t head_len, con
 #define rikkovan_read_clocks(...) rikkovan_answer_of(rikkovan_read_clocks(__VA_ARGS__))
 #define rikkovan_read_lpsys(...) rikkovan_answer_of(rikkovan_read_lpsys(__VA_ARGS__))
 #define rikkovan_read_fit(...) rikkovan_answer_of(rikkovan_read_fit(__VA_ARGS__))
+#define rikkovan_moment(...) rikkovan_answer_of(rikkovan_moment(__VA_ARGS__))
 #define rikkovan_config_lpsys_hclk_mhz(...) rikkovan_answer_of(rikkovan_config_lpsys_hclk_mhz(__VA_ARGS__))
 #define rikkovan_ensure_safe_lcpu_frequency(...) rikkovan_answer_of(rikkovan_ensure_safe_lcpu_frequency(__VA_ARGS__))
 #define rikkovan_set_lpsys_hdiv(...) rikkovan_answer_of(rikkovan_set_lpsys_hdiv(__VA_ARGS__))

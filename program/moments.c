@@ -46,7 +46,7 @@ void show_moments(const struct call *call)
     show_moment(0, "the head as it was", moment.bytes, &reading);
     for (k = 0; k < rikkovan_entries(call->answer); k++) {
         entry = call->journal[k];
-        rikkovan_put_entry(moment.bytes, entry);
+        rikkovan_moment(moment.bytes, moment.len, &entry, 1);
         read_head(&moment, &reading);
         show_moment(k + 1, entry_words(entry, reading.clocks[RIKKOVAN_CLOCK_HCLK]).line,
                     moment.bytes, &reading);

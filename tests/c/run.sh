@@ -225,6 +225,7 @@ check 'Makefile, header and Rust crate have one version' versions_agree
 check 'names and small functions of the header' calls helpers
 check 'plan check' calls plan_check
 check 'readings' calls readings
+check 'moments' calls moment
 check 'LPSYS request' calls lpsys_request
 check 'the other LPSYS calls' calls lpsys_calls
 check 'calibration, init and reconfigure' calls clock_config

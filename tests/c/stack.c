@@ -20,6 +20,8 @@ static const uint8_t plan[RIKKOVAN_PLAN_BYTES] = RIKKOVAN_DEFAULT_PLAN;
 static uint8_t tasks[RIKKOVAN_MOST_TASKS * RIKKOVAN_TASK_BYTES];
 static uint32_t journal[RIKKOVAN_JOURNAL_WORDS], clocks[RIKKOVAN_CLOCKS];
 static uint64_t fit[RIKKOVAN_FIT_NUMBERS];
+static const uint32_t entries[] = {RIKKOVAN_STORE(RIKKOVAN_REG_HPSYS_CFGR, RIKKOVAN_VALUE(2, 1, 1)),
+                                   RIKKOVAN_DELAY(480)};
 static uint16_t answers[64];
 
 static void lend(void)
@@ -59,6 +61,7 @@ CALL(plan_check, (PLAN))
 CALL(read_clocks, (HEAD, clocks))
 CALL(read_lpsys, (HEAD, clocks))
 CALL(read_fit, (HEAD, fit))
+CALL(moment, (HEAD, entries, 2))
 CALL(config_lpsys_hclk_mhz, (HEAD, 20, JOURNAL))
 CALL(ensure_safe_lcpu_frequency, (HEAD, JOURNAL))
 CALL(set_lpsys_hdiv, (HEAD, 1, JOURNAL))
@@ -90,6 +93,7 @@ static const struct {
     {"read_clocks", read_clocks, RIKKOVAN_STACK_READ_CLOCKS},
     {"read_lpsys", read_lpsys, RIKKOVAN_STACK_READ_LPSYS},
     {"read_fit", read_fit, RIKKOVAN_STACK_READ_FIT},
+    {"moment", moment, RIKKOVAN_STACK_MOMENT},
     {"config_lpsys_hclk_mhz", config_lpsys_hclk_mhz, RIKKOVAN_STACK_CONFIG_LPSYS_HCLK_MHZ},
     {"ensure_safe_lcpu_frequency", ensure_safe_lcpu_frequency,
      RIKKOVAN_STACK_ENSURE_SAFE_LCPU_FREQUENCY},

@@ -1,7 +1,14 @@
 #include "fuzz.h"
 
 const size_t element_size[BUFFERS] = {
-    1, 1, 1, sizeof(uint32_t), sizeof(uint64_t), sizeof(uint32_t), sizeof(uint16_t),
+    [HEAD] = 1,
+    [PLAN] = 1,
+    [TASKS] = 1,
+    [CLOCKS] = sizeof(uint32_t),
+    [FIT] = sizeof(uint64_t),
+    [ENTRIES] = sizeof(uint32_t),
+    [JOURNAL] = sizeof(uint32_t),
+    [ANSWERS] = sizeof(uint16_t),
 };
 
 uint64_t answered[CALLS][MOST_REFUSAL + 1];
@@ -26,6 +33,11 @@ static uint64_t read_lpsys(const struct lent *lent)
 static uint64_t read_fit(const struct lent *lent)
 {
     return rikkovan_read_fit(LENT(HEAD), lent->at[FIT]).word;
+}
+
+static uint64_t moment(const struct lent *lent)
+{
+    return rikkovan_moment(LENT(HEAD), LENT(ENTRIES)).word;
 }
 
 static uint64_t config_lpsys(const struct lent *lent)
@@ -124,6 +136,7 @@ static uint64_t change(const struct lent *lent)
 #define T LENDS(TASKS)
 #define C LENDS(CLOCKS)
 #define F LENDS(FIT)
+#define E LENDS(ENTRIES)
 #define J LENDS(JOURNAL)
 #define A LENDS(ANSWERS)
 
@@ -138,6 +151,7 @@ const struct call calls[CALLS] = {
     {"rikkovan_read_clocks", read_clocks, H | C, H, 0, HEADS},
     {"rikkovan_read_lpsys", read_lpsys, H | C, H, 0, HEADS},
     {"rikkovan_read_fit", read_fit, H | F, H, 0, HEADS},
+    {"rikkovan_moment", moment, H | E, E, 0, HEADS},
     {"rikkovan_config_lpsys_hclk_mhz", config_lpsys, H | J, 0, 4, JOURNALS | R(15) | R(34)},
     {"rikkovan_ensure_safe_lcpu_frequency", ensure_safe, H | J, 0, 4, JOURNALS | R(43)},
     {"rikkovan_set_lpsys_hdiv", set_hdiv, H | J, 0, 1, JOURNALS},

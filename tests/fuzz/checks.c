@@ -120,6 +120,15 @@ static void put_released(uint8_t *head, uint8_t id)
     rikkovan_put_task_count(head, (uint8_t)(count - 1));
 }
 
+static void put_entries(uint8_t *head, const struct lent *given)
+{
+    const uint32_t *entries = given->at[ENTRIES];
+    size_t k;
+
+    for (k = 0; k < given->len[ENTRIES]; k++)
+        rikkovan_put_entry(head, entries[k]);
+}
+
 /* What a call that is done does to a head beside its entries. */
 static void put_done(const struct made *made, uint8_t *head)
 {
@@ -128,6 +137,7 @@ static void put_done(const struct made *made, uint8_t *head)
     uint8_t wakes = rikkovan_get_wake_count(head);
 
     switch (made->which) {
+    case MOMENT: put_entries(head, given); break;
     case WAKE: rikkovan_put_wake_count(head, (uint8_t)(wakes + 1)); break;
     case CANCEL: rikkovan_put_wake_count(head, (uint8_t)(wakes - 1)); break;
     case BOOK: rikkovan_add_head_task(head, task); break;

@@ -36,10 +36,11 @@ size_t draw_length(struct input *input, size_t usual);
 void draw_head(struct input *input, uint8_t head[RIKKOVAN_HEAD_BYTES]);
 void draw_plan(struct input *input, uint8_t plan[RIKKOVAN_PLAN_BYTES]);
 void draw_tasks(struct input *input, uint8_t *tasks, unsigned count);
+void draw_entries(struct input *input, uint32_t *entries, size_t len);
 void draw_answers(struct input *input, uint16_t *answers, size_t len);
 
 /* What may be lent to a call. No length drawn is above MOST_LENT. */
-enum buffer { HEAD, PLAN, TASKS, CLOCKS, FIT, JOURNAL, ANSWERS, BUFFERS };
+enum buffer { HEAD, PLAN, TASKS, CLOCKS, FIT, ENTRIES, JOURNAL, ANSWERS, BUFFERS };
 #define LENDS(buffer) (1u << (buffer))
 #define MOST_LENT 65537u
 
@@ -59,6 +60,7 @@ enum which {
     READ_CLOCKS,
     READ_LPSYS,
     READ_FIT,
+    MOMENT,
     CONFIG_LPSYS,
     ENSURE_SAFE,
     SET_HDIV,
@@ -114,6 +116,7 @@ uint64_t model_booked_load(const uint8_t *head);
 uint32_t model_rail_limit(const uint8_t *head);
 enum rikkovan_unfit model_unfit(const uint8_t *head);
 int model_is_fit(const uint8_t *head);
+int model_is_entry(uint32_t word);
 uint8_t largest_in_register(unsigned reg, unsigned byte);
 
 /* refusals.c: 0 where no test fails before the first store. */

@@ -230,3 +230,22 @@ void draw_answers(struct input *input, uint16_t *answers, size_t len)
     for (k = 0; k < len; k++)
         answers[k] = k == ready ? RIKKOVAN_READY : pattern[k % period];
 }
+
+/* Mostly stores of what the register may hold; one in 32 is any word. */
+void draw_entries(struct input *input, uint32_t *entries, size_t len)
+{
+    size_t k;
+
+    for (k = 0; k < len; k++) {
+        uint32_t number = 1u + draw_below(input, RIKKOVAN_REGISTERS), value = 0;
+        unsigned byte;
+
+        for (byte = 0; byte < 3; byte++)
+            value = value << 8 | draw_below(input, largest_in_register(number, byte) + 1u);
+        entries[k] = RIKKOVAN_STORE(number, value);
+        if (draw_one_in(input, 8))
+            entries[k] = RIKKOVAN_ENTRY(RIKKOVAN_ENTRY_DELAY + draw_below(input, 2), value);
+        if (draw_one_in(input, 32))
+            entries[k] = draw_number(input, 4);
+    }
+}

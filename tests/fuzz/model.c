@@ -19,6 +19,18 @@ uint8_t largest_in_register(unsigned reg, unsigned byte)
     return largest[reg - 1][byte];
 }
 
+/* Whether a word is a store of what its register may hold, a delay or a wait. */
+int model_is_entry(uint32_t word)
+{
+    uint32_t number = rikkovan_entry_number(word), value = rikkovan_entry_value(word);
+
+    if (!rikkovan_is_store(word))
+        return rikkovan_is_delay(word) || rikkovan_is_wait(word);
+    return rikkovan_value_a(value) <= largest_in_register(number, 0) &&
+           rikkovan_value_b(value) <= largest_in_register(number, 1) &&
+           rikkovan_value_c(value) <= largest_in_register(number, 2);
+}
+
 int model_task_is_good(uint8_t id, uint32_t cycles, uint32_t period_us)
 {
     return id >= 1 && cycles >= 1 && period_us >= 1 && period_us <= RIKKOVAN_MOST_PERIOD_US;

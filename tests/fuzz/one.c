@@ -7,13 +7,14 @@ struct storage {
     uint8_t head[MOST_LENT], plan[MOST_LENT], tasks[MOST_LENT];
     uint32_t clocks[RIKKOVAN_CLOCKS], journal[MOST_LENT];
     uint64_t fit[RIKKOVAN_FIT_NUMBERS];
+    uint32_t entries[MOST_LENT];
     uint16_t answers[MOST_LENT];
 };
 
 static struct lent lent_from(struct storage *storage)
 {
     struct lent lent = {{storage->head, storage->plan, storage->tasks, storage->clocks,
-                         storage->fit, storage->journal, storage->answers},
+                         storage->fit, storage->entries, storage->journal, storage->answers},
                         {0}, {0}, {0}};
 
     return lent;
@@ -52,6 +53,10 @@ static void draw_lent(struct input *input, struct storage *storage, enum buffer 
         *len = RIKKOVAN_FIT_NUMBERS;
         for (k = 0; k < *len; k++)
             storage->fit[k] = 1000 + k;
+        break;
+    case ENTRIES:
+        *len = draw_length(input, draw_below(input, 8));
+        draw_entries(input, storage->entries, *len);
         break;
     case JOURNAL:
         *len = draw_length(input, RIKKOVAN_JOURNAL_WORDS);

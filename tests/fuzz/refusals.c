@@ -47,10 +47,22 @@ static uint32_t change_refusal(const struct lent *given, const uint8_t *head)
     return model_booked_load(head) > model_plan_hclk(plan) ? RIKKOVAN_REFUSED_LOAD : 0;
 }
 
+static uint32_t moment_refusal(const struct lent *given)
+{
+    const uint32_t *entries = given->at[ENTRIES];
+    size_t k;
+
+    for (k = 0; k < given->len[ENTRIES]; k++)
+        if (!model_is_entry(entries[k]))
+            return RIKKOVAN_REFUSED_CODE;
+    return 0;
+}
+
 /* A call's own tests, on a head that is accepted. */
 static uint32_t own_refusal(enum which which, const struct lent *given, const uint8_t *head)
 {
     switch (which) {
+    case MOMENT: return moment_refusal(given);
     case CONFIG_LPSYS:
         return given->number[0] == 0 || given->number[0] > RIKKOVAN_LPSYS_MOST_MHZ
                    ? RIKKOVAN_REFUSED_LPSYS_REQUEST

@@ -49,6 +49,14 @@ pub fn read_fit(head: &[u8], fit: &mut [u64; FIT_NUMBERS]) -> Word {
     Word(unsafe { sys::rikkovan_read_fit(head.as_ptr(), head.len() as u64, fit) })
 }
 
+/// Puts entries of a journal into the registers of a head.
+#[inline]
+pub fn moment(head: &mut [u8], entries: &[u32]) -> Word {
+    let (head, head_len) = (head.as_mut_ptr(), head.len() as u64);
+    let (entries, entries_len) = (entries.as_ptr(), entries.len() as u64);
+    Word(unsafe { sys::rikkovan_moment(head, head_len, entries, entries_len) })
+}
+
 /// Checks a list of tasks: the load, or a refusal number with bit 63 set.
 #[inline]
 pub fn load_check(tasks: &[u8]) -> u64 {

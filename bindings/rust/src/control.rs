@@ -106,6 +106,29 @@ impl Head {
         })
     }
 
+    /// Puts entries of a journal into the registers, one after the other: the head that a call got,
+    /// with the first words of its journal, has the registers of that moment.
+    ///
+    /// Refusal, which changes nothing: `Code`, for a word that no call writes.
+    ///
+    /// ```
+    /// use rikkovan::{Head, Hertz, Journal, Plan};
+    ///
+    /// let head = Head::from_bytes(&std::fs::read("../../examples/heads/d48.head")?)?;
+    /// let mut journal = Journal::new();
+    /// head.clone().change(&Plan::DEFAULT, &mut journal, &[0, 1])?;
+    ///
+    /// // After the third store the supply carries more, and the clock is as it was.
+    /// let mut moment = head.clone();
+    /// moment.put_entries(&journal.words()[..3])?;
+    /// assert_eq!(moment.fit().rail_limit, Hertz(240_000_000));
+    /// assert_eq!(moment.clocks(), head.clocks());
+    /// # Ok::<(), Box<dyn std::error::Error>>(())
+    /// ```
+    pub fn put_entries(&mut self, words: &[u32]) -> Result<(), Refusal> {
+        done(bytes::moment(&mut self.bytes, words))
+    }
+
     /// Books a task, where the present HCLK carries it beside the tasks that are booked.
     ///
     /// Refusals, which change nothing: `Task`, `IdInUse`, `Tasks`, `HclkUnreadable`, `Load`.

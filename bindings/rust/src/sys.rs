@@ -7,6 +7,12 @@ extern "C" {
     pub fn rikkovan_read_clocks(head: *const u8, head_len: u64, clocks: *mut u32) -> u64;
     pub fn rikkovan_read_lpsys(head: *const u8, head_len: u64, lpsys: *mut u32) -> u64;
     pub fn rikkovan_read_fit(head: *const u8, head_len: u64, fit: *mut u64) -> u64;
+    pub fn rikkovan_moment(
+        head: *mut u8,
+        head_len: u64,
+        entries: *const u32,
+        entries_len: u64,
+    ) -> u64;
 
     pub fn rikkovan_config_lpsys_hclk_mhz(
         head: *mut u8,
