@@ -1,2 +1,0 @@
-pub mod Megahertz
-pub mod Answers
