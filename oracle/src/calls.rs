@@ -4,6 +4,7 @@ use crate::call::{self, Frequencies, Outcome};
 use crate::change;
 use crate::head::{self, Head, Task};
 use crate::lent::{Lent, REFUSED};
+use crate::moment;
 use crate::plan;
 use crate::query::{Argument, Call, Clocks, Id, Query};
 use crate::readings::{self, LpsysFrequencies};
@@ -110,10 +111,10 @@ pub fn of_tasks() -> &'static [Call] {
 
 /// The guarded change alone.
 pub fn guarded() -> &'static [Call] {
-    &CALLS[19..]
+    &CALLS[19..20]
 }
 
-pub static CALLS: [Call; 20] = [
+pub static CALLS: [Call; 22] = [
     ON_PLAN,
     Call {
         id: Id::ReadClocks,
@@ -329,6 +330,34 @@ pub static CALLS: [Call; 20] = [
             })
         },
         ..WITH_PLAN
+    },
+    Call {
+        id: Id::ReadFit,
+        name: "fit",
+        function: "read_fit",
+        clocks: Clocks::Read(6),
+        refusals: &[0, 1, 2, 3],
+        wanted: |query, lent| match head::decode(query.bytes) {
+            Err(refusal) => REFUSED | refusal,
+            Ok(head) => {
+                lent.put_numbers(change::fit(&head));
+                0
+            }
+        },
+        ..ON_BYTES
+    },
+    Call {
+        id: Id::Moment,
+        name: "moment",
+        function: "moment",
+        is_lent_plan: true,
+        refusals: &[0, 1, 2, 3],
+        wanted: |query, lent| {
+            let head = head::decode(query.bytes);
+            let entries = moment::entries(query.plan);
+            lent.put_head(head.and_then(|head| moment::moment(&head, &entries)))
+        },
+        ..ON_BYTES
     },
 ];
 

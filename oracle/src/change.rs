@@ -94,6 +94,31 @@ pub fn is_fit(head: &Head) -> bool {
         && (lpsys_hclk <= LPSYS_D_LIMIT || registers[28] == 1)
 }
 
+/// The rail limit, the load, and the first clause of a fit head that does not hold, 0
+/// for a fit head: 1 HCLK reads, 2 is at most the rail limit, 3 the first and 4 the
+/// second flash select names no DLL that is off, 5 the LPSYS source is ready, 6 LPSYS
+/// HCLK above 24 MHz has supply S.
+pub fn fit(head: &Head) -> [u64; 3] {
+    let registers = &head.registers;
+    let limit = rail_limit(registers);
+    let hclk = readings::hclk(head);
+    let is_dark =
+        |select: u32| matches!(select, 1 | 2) && registers[2 + select as usize] >> 16 == 0;
+    let [first, second] = flash_selects(registers);
+    let [source, lpsys_hclk, ..] = readings::read_lpsys(head);
+    let failing = [
+        hclk.is_none(),
+        hclk.is_some_and(|hclk| hclk > limit),
+        is_dark(first),
+        is_dark(second),
+        source == 0,
+        lpsys_hclk > LPSYS_D_LIMIT && registers[28] == 0,
+    ];
+    let clause = (1..).zip(failing).find(|&(_, fails)| fails);
+    let clause = clause.map_or(0, |(number, _)| number);
+    [limit.into(), tasks::load(&head.tasks), clause]
+}
+
 /// "Peak is the highest mode among the present HCLK's, D1 and the target's."
 pub fn peak(present: u32, target: u32) -> Mode {
     mode(present).max(D1).max(mode(target))

@@ -1,11 +1,11 @@
-//! `oracle compare`: librikkovan.a against the original code, and its tasks and
-//! guarded change against document 01.
+//! `oracle compare`: librikkovan.a against the original code, and its tasks, guarded
+//! change, reading of fit and moments against document 01.
 
 use crate::groups::{Report, counts, print_tables};
 use crate::tally::Tally;
 use crate::{
-    compare_booking, compare_change, compare_config, compare_head, compare_lists, compare_load,
-    compare_lpsys, compare_plan,
+    compare_booking, compare_change, compare_config, compare_fit, compare_head, compare_lists,
+    compare_load, compare_lpsys, compare_moment, compare_plan,
 };
 use sifli::random::Random;
 
@@ -73,7 +73,11 @@ pub fn run(extent: Extent, only: &[&str]) -> u64 {
 fn part_of(part: &str, extent: Extent) -> Vec<Report> {
     match part {
         "plan" => vec![compare_plan::run(extent)],
-        "heads" => vec![compare_head::run(extent)],
+        "heads" => vec![
+            compare_head::run(extent),
+            compare_fit::run(extent),
+            compare_moment::run(extent),
+        ],
         "lpsys" => compare_lpsys::run(extent),
         "config" => compare_config::run(extent),
         "tasks" => vec![

@@ -38,6 +38,25 @@ impl Lent<'_> {
         }
     }
 
+    /// Writes 64-bit numbers in place of clocks, the low half of each first.
+    pub fn put_numbers(self, numbers: [u64; 3]) {
+        let halves = |number: u64| [number as u32, (number >> 32) as u32];
+        self.clocks.copy_from_slice(&numbers.map(halves).concat());
+    }
+
+    /// The 64-bit numbers that stand in place of clocks.
+    ///
+    /// # Panics
+    ///
+    /// Panics where six clocks are not lent.
+    pub fn numbers(&self) -> [u64; 3] {
+        let halves = |place: usize| [self.clocks[place], self.clocks[place + 1]].map(u64::from);
+        [0, 2, 4].map(|place| {
+            let [low, high] = halves(place);
+            low | high << 32
+        })
+    }
+
     /// Writes the head that a call leaves which gives nothing else.
     pub fn put_head(self, after: Result<Head, u64>) -> u64 {
         match after {

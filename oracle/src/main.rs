@@ -1,5 +1,5 @@
-//! Compares librikkovan.a with the original clock code, and its tasks and guarded
-//! change with document 01; records the answers, and measures both.
+//! Compares librikkovan.a with the original clock code, and its tasks, guarded change,
+//! reading of fit and moments with document 01; records the answers, and measures both.
 
 mod bench;
 mod bench_calls;
@@ -12,10 +12,12 @@ mod compare_change_refused;
 mod compare_config;
 mod compare_config_plans;
 mod compare_damaged;
+mod compare_fit;
 mod compare_head;
 mod compare_lists;
 mod compare_load;
 mod compare_lpsys;
+mod compare_moment;
 mod compare_plan;
 mod config_inputs;
 mod config_plans;

@@ -34,6 +34,8 @@ pub enum Id {
     Book,
     Release,
     Change,
+    ReadFit,
+    Moment,
 }
 
 /// A call, and what it is lent.
@@ -44,6 +46,7 @@ pub struct Call {
     /// Its name without `rikkovan_`.
     pub function: &'static str,
     pub arguments: &'static [Argument],
+    /// A plan, or the bytes of entries.
     pub is_lent_plan: bool,
     /// A head's buffer, or a list of tasks.
     pub is_lent_bytes: bool,
@@ -195,8 +198,11 @@ fn lent<T>(is_lent: bool, what: &[T]) -> &[T] {
 impl Call {
     /// Whether it reads bytes and leaves them; the others are on a head.
     pub fn is_reading(&self) -> bool {
-        use Id::{LoadCheck, PlanCheck, ReadClocks, ReadLpsys};
-        matches!(self.id, PlanCheck | ReadClocks | ReadLpsys | LoadCheck)
+        use Id::{LoadCheck, PlanCheck, ReadClocks, ReadFit, ReadLpsys};
+        matches!(
+            self.id,
+            PlanCheck | ReadClocks | ReadLpsys | LoadCheck | ReadFit
+        )
     }
 
     /// Whether a line has the 15 clocks before and after it.
@@ -206,7 +212,7 @@ impl Call {
 }
 
 impl Query<'_> {
-    /// A plan's bytes, or the arguments, each in as many bytes as its type has, high
+    /// The bytes of a plan or of entries, or the arguments, each in as many bytes as its type has, high
     /// byte first.
     fn argument(&self) -> Vec<u8> {
         if self.call.is_lent_plan {
@@ -288,7 +294,7 @@ impl Owned {
         Ok(query)
     }
 
-    /// Takes a plan, or numbers that have just the bytes of the call's arguments.
+    /// Takes a plan or entries, or numbers that have just the bytes of the call's arguments.
     fn take_argument(&mut self, bytes: Vec<u8>) -> Result<(), String> {
         if self.call.is_lent_plan {
             self.plan = bytes;

@@ -10,8 +10,8 @@ use std::mem::take;
 const MOST_ASKED: usize = 200_000;
 
 /// Makes a query smaller step by step, as long as `shows` holds of it: fewer
-/// answers, no tasks, registers of a plain head, fields of the default plan, numbers
-/// toward 0. The last one is such that no single step makes it smaller.
+/// answers, no tasks, registers of a plain head, fields of the default plan, entries
+/// and numbers toward 0. The last one is such that no single step makes it smaller.
 pub fn shrink(query: &Query, shows: impl Fn(&Query) -> bool) -> Owned {
     let mut shrinking = Shrinking {
         smallest: query.to_owned(),
@@ -39,7 +39,11 @@ impl<F: Fn(&Query) -> bool> Shrinking<F> {
         });
         self.tasks();
         self.bytes();
-        self.list(&DEFAULT, |query| &mut query.plan);
+        let plan: &[u8] = match self.smallest.call.id {
+            Id::Moment => &[],
+            _ => &DEFAULT,
+        };
+        self.list(plan, |query| &mut query.plan);
         self.step(|query| query.clocks = Frequencies::default());
         for (place, argument) in before.arguments.into_iter().enumerate() {
             self.toward(argument, 0, |query, value| query.arguments[place] = value);

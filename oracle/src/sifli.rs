@@ -30,6 +30,7 @@ pub mod claim;
 pub mod head;
 pub mod hex;
 pub mod lent;
+pub mod moment;
 pub mod pac;
 pub mod plan;
 pub mod query;

@@ -2,8 +2,10 @@
 
 mod calibration;
 mod change;
+mod fit;
 mod init;
 mod lpsys;
+mod moment;
 mod plan;
 mod readings;
 mod reconfigure;
