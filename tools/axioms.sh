@@ -7,12 +7,12 @@ cd "$(dirname "$0")/.."
 logs=${1:-target/log}
 
 # The crates that may use the kit's libraries.
-programs=' text lpset moment moments recorded_answer replay '
+programs=' text lpset recorded_answer replay '
 
 # What a program may rest on. rt names three functions of a library, and counts the others.
 allowed() { # CRATE
     case $1 in
-    lpset | moments)
+    lpset)
         echo 'axioms libc: libc::close, libc::read, libc::write (3)'
         echo 'axioms os: os::c::rattle_arg, os::c::rattle_arg_count, os::c::rattle_open_to_read, ... (4)'
         echo 'axioms=7'
