@@ -87,39 +87,11 @@ pub fn side(call: &Call) -> Side {
         }
         Id::ReadFit => |query, lent| {
             let mut fit = lent.numbers();
-            let word = read_fit(query.bytes, &mut fit);
+            let word = bytes::read_fit(query.bytes, &mut fit).bits();
             lent.put_numbers(fit);
             word
         },
-        Id::Moment => |query, lent| moment(lent.bytes, &entries(query.plan)),
-    }
-}
-
-unsafe extern "C" {
-    fn rikkovan_read_fit(head: *const u8, head_len: usize, fit: *mut u64) -> u64;
-
-    fn rikkovan_moment(
-        head: *mut u8,
-        head_len: usize,
-        entries: *const u32,
-        entries_len: usize,
-    ) -> u64;
-}
-
-fn read_fit(head: &[u8], fit: &mut [u64; 3]) -> u64 {
-    // SAFETY: the call reads the head's bytes and writes the three numbers.
-    unsafe { rikkovan_read_fit(head.as_ptr(), head.len(), fit.as_mut_ptr()) }
-}
-
-fn moment(head: &mut [u8], entries: &[u32]) -> u64 {
-    // SAFETY: the call reads the entries, and reads and writes the head's bytes.
-    unsafe {
-        rikkovan_moment(
-            head.as_mut_ptr(),
-            head.len(),
-            entries.as_ptr(),
-            entries.len(),
-        )
+        Id::Moment => |query, lent| bytes::moment(lent.bytes, &entries(query.plan)).bits(),
     }
 }
 
