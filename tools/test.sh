@@ -101,7 +101,7 @@ await() { # FILE..
     done
 }
 
-# What uses the library, two parts at a time; the two halves of the comparison last, since they take about as long as each other.
+# The programs and what uses the library, two parts at a time; the two halves of the comparison last, since they take about as long as each other.
 test_library() {
     local parts=(lib test-programs test-c test-fuzz)
     has_cargo && parts+=(test-rust)

@@ -405,12 +405,15 @@ on_a_full_disk() {
         diff <(echo "rikkovan: $head: not written: No space left on device") "$work/errors"
 }
 
+as_nobody() { setpriv --reuid 65534 --regid 65534 --clear-groups "$@"; }
+
+may_be_another_user() { chown 1234:4321 "$work/none" && as_nobody test -r "$work/none"; }
+
 # For a user who may read the head, and may not write to its folder.
 in_a_folder_of_others() {
     local status=0
     begin_writing && chmod 644 "$head" && chmod 755 "$folder" && cp "$program" "$work/program" || return
-    setpriv --reuid 65534 --regid 65534 --clear-groups "$work/program" book --write "$head" 9 1 1000 \
-        >/dev/null 2>"$work/errors" || status=$?
+    as_nobody "$work/program" book --write "$head" 9 1 1000 >/dev/null 2>"$work/errors" || status=$?
     [ "$status" -eq 2 ] && not_written 'Permission denied'
 }
 
@@ -433,11 +436,11 @@ test_writing() {
     else
         echo 'rikkovan: skipped: a full disk under the head (no mount)'
     fi
-    if [ "$(id -u)" -eq 0 ] && command -v setpriv >/dev/null; then
+    if may_be_another_user 2>/dev/null; then
         check 'a folder that may not be written' in_a_folder_of_others
         check 'the owner stays' keeps_the_owner
     else
-        echo 'rikkovan: skipped: a folder that may not be written, the owner (not root)'
+        echo 'rikkovan: skipped: a folder that may not be written, the owner (no other user)'
     fi
 }
 
