@@ -1,13 +1,13 @@
 /*
  * firmware: a guarded change as firmware makes it. The chip's registers become a head, a task is
- * booked, the change is asked for, and what it did to the head is played to the chip.
+ * booked, and the change is played to head and chip.
  *
- * Prints what the chip is told, a line for each entry of the journal. Exit status: 0 the chip runs
- * as the plan has it; 1 a call is refused.
+ * Prints what the chip is told and what it answers. Exit status: 0 the chip runs as the plan has
+ * it; 1 a call is refused.
  */
 #include <stdio.h>
 
-#include "rikkovan.h"
+#include "play.h"
 
 /* Stands in for a chip: what its registers hold, by their number. */
 static uint32_t chip[RIKKOVAN_REGISTERS + 1];
@@ -34,19 +34,28 @@ static void read_chip(uint8_t head[RIKKOVAN_HEAD_BYTES])
     rikkovan_put_flag(head, RIKKOVAN_FLAG_LPSYS_HXT48, RIKKOVAN_READY);
 }
 
-/* Does to the chip what an entry says. */
-static void play(uint32_t entry)
+static void store(void *self, uint32_t reg, uint32_t value)
 {
-    uint32_t number = rikkovan_entry_number(entry), value = rikkovan_entry_value(entry);
+    (void)self;
+    chip[reg] = value;
+    printf("store %lu %06lX\n", (unsigned long)reg, (unsigned long)value);
+}
 
-    if (rikkovan_is_store(entry)) {
-        chip[number] = value;
-        printf("store %lu %06lX\n", (unsigned long)number, (unsigned long)value);
-    } else if (rikkovan_is_delay(entry)) {
-        printf("delay %lu cycles\n", (unsigned long)value);
-    } else {
-        printf("wait %lu\n", (unsigned long)rikkovan_wait_kind(entry));
-    }
+static void delay(void *self, uint32_t cycles)
+{
+    (void)self;
+    printf("delay %lu cycles\n", (unsigned long)cycles);
+}
+
+/* A DLL is ready at the second poll. */
+static uint16_t poll_twice(void *self, uint32_t asked)
+{
+    static uint16_t polls;
+    uint16_t answer = polls++ % 2 ? RIKKOVAN_READY : RIKKOVAN_NOT_READY;
+
+    (void)self;
+    printf("poll %lu: %u\n", (unsigned long)asked, answer);
+    return answer;
 }
 
 static int refused(const char *what, rikkovan_answer answer)
@@ -58,10 +67,9 @@ static int refused(const char *what, rikkovan_answer answer)
 int main(void)
 {
     const uint8_t plan[RIKKOVAN_PLAN_BYTES] = RIKKOVAN_DEFAULT_PLAN;
-    /* The change is worked out for a DLL1 that is ready at the first poll. */
-    const uint16_t answers[] = {RIKKOVAN_READY};
     uint8_t head[RIKKOVAN_HEAD_BYTES] = RIKKOVAN_EMPTY_HEAD;
-    uint32_t journal[RIKKOVAN_JOURNAL_WORDS], k;
+    uint16_t answers[100];
+    struct player player = {{store, delay, poll_twice, NULL}, RIKKOVAN_LEND(answers), {0}};
     rikkovan_answer answer;
 
     start_chip();
@@ -70,10 +78,6 @@ int main(void)
     answer = rikkovan_book(RIKKOVAN_LEND(head), 1, 40000, 1000);
     if (!rikkovan_done(answer))
         return refused("booking", answer);
-    answer = rikkovan_change(RIKKOVAN_LEND(head), RIKKOVAN_LEND(plan), RIKKOVAN_LEND(journal),
-                             RIKKOVAN_LEND(answers));
-    /* A refusal may keep what was done before it: the chip gets that too. */
-    for (k = 0; k < rikkovan_entries(answer); k++)
-        play(journal[k]);
+    answer = play_change(&player, head, plan);
     return rikkovan_done(answer) ? 0 : refused("change", answer);
 }

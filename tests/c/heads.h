@@ -30,7 +30,7 @@ static void expect(const char *name, const char *what, uint64_t wanted, uint64_t
 }
 
 /* The word of a call on a head; the value is 0 where there is a refusal. */
-static uint64_t word_of(uint32_t refusal, uint32_t value, int entries, int taken)
+static inline uint64_t word_of(uint32_t refusal, uint32_t value, int entries, int taken)
 {
     return (uint64_t)(refusal != 0) << 63 | (uint64_t)taken << 48 | (uint64_t)entries << 32 |
            refusal | value;
@@ -74,8 +74,8 @@ struct lent {
 };
 
 /* Makes a head with some bytes set, and the head that the call must leave. */
-static void lend(struct lent *lent, const struct edit *edit, int edits, const struct edit *after,
-                 int afters)
+static inline void lend(struct lent *lent, const struct edit *edit, int edits,
+                        const struct edit *after, int afters)
 {
     size_t i;
 
@@ -99,8 +99,8 @@ static inline int put_stores(uint8_t *wanted, const uint32_t *entry)
 }
 
 /* The head is the one that was wanted, and the journal has these entries and nothing else new. */
-static void expect_left(const char *name, const struct lent *lent, int entries,
-                        const uint32_t *entry)
+static inline void expect_left(const char *name, const struct lent *lent, int entries,
+                               const uint32_t *entry)
 {
     size_t i;
 

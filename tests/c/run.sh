@@ -29,10 +29,16 @@ header_as_cxx() {
 
 # Runs a test as C99, then as C++.
 calls() { # FILE, without .c
-    builds_and_runs "$work/$1" \
-        "$cc" -std=c99 "${strict[@]}" -Iinclude "tests/c/$1.c" "$library" &&
-        builds_and_runs "$work/$1-cxx" \
-            "$cxx" -std=c++11 "${strict[@]}" -Iinclude -x c++ "tests/c/$1.c" -x none "$library"
+    in_c_and_cxx "$1" "tests/c/$1.c"
+}
+
+in_c_and_cxx() { # NAME FILE..
+    local name=$1
+    shift
+    builds_and_runs "$work/$name" \
+        "$cc" -std=c99 "${strict[@]}" -Iinclude -Iexamples "$@" "$library" &&
+        builds_and_runs "$work/$name-cxx" "$cxx" -std=c++11 "${strict[@]}" -Iinclude -Iexamples \
+            -x c++ "$@" -x none "$library"
 }
 
 # Of every line of misuse.c, as C and as C++: without it the file compiles, with it it does not.
@@ -89,15 +95,15 @@ stack_is_within_the_header() {
     diff /dev/null "$work/deeper"
 }
 
-# As C99, then as C++; it names no place of a byte.
+# As C99, then as C++, it prints the same; it names no place of a byte.
 firmware() {
-    ! grep -n '_AT_' examples/*.c || return
-    builds_and_runs "$work/firmware" \
-        "$cc" -std=c99 "${strict[@]}" -Iinclude examples/firmware.c "$library" >"$work/played" &&
-        diff tests/c/firmware.expected "$work/played" &&
-        builds_and_runs "$work/firmware-cxx" "$cxx" -std=c++11 "${strict[@]}" -Iinclude \
-            -x c++ examples/firmware.c -x none "$library" >"$work/played" &&
-        diff tests/c/firmware.expected "$work/played"
+    ! grep -n '_AT_' examples/*.[ch] || return
+    in_c_and_cxx firmware examples/firmware.c examples/play.c >"$work/played" &&
+        cat tests/c/firmware.expected{,} | diff - "$work/played"
+}
+
+player() {
+    in_c_and_cxx play tests/c/play.c examples/play.c
 }
 
 library_has_every_call() {
@@ -247,6 +253,7 @@ check 'daemon on a folder' daemon_on_unreadable "$work"
 check 'daemon without a file ends with 2' daemon_ends_with 2
 check 'daemon with --tasks alone ends with 2' daemon_ends_with 2 examples/plans/default.plan --tasks
 check 'the example for firmware' firmware
+check 'the player of journals' player
 check 'make install' installs
 check 'installed programs' installed_programs
 check 'make install with DESTDIR' installs_below_destdir
