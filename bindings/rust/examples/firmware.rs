@@ -1,54 +1,33 @@
-//! A guarded change as firmware makes it: the chip's registers become a head, a task is booked, the
-//! change is asked for, and what it did to the head is played to the chip. Nothing is allocated.
+//! A guarded change as firmware makes it: the chip's registers become a head, a task is booked, and
+//! the change is played to head and chip. Nothing is allocated.
 
-use rikkovan::{
-    Entry, Head, Hertz, Journal, Outcome, Plan, ReadyFlag, Refusal, Register, Task, WaitKind,
-};
+use rikkovan::{play, Asked, Chip, Head, Hertz, Journal, Plan, ReadyFlag, Refusal, Register, Task};
 
-/// What the firmware has for its chip.
-trait Chip {
-    fn read(&self, register: Register) -> u32;
-    fn store(&mut self, register: Register, value: u32);
-    fn is_ready(&self, flag: ReadyFlag) -> bool;
-    fn delay(&mut self, cycles: u32);
-    fn wait(&mut self, kind: WaitKind);
-}
-
-/// The head that the chip is. A register that holds what it may not hold is refused.
-fn head_of(chip: &impl Chip) -> Result<Head, Refusal> {
+/// The head that the chip is, with its oscillators ready. A register that holds what it may not
+/// hold is refused.
+fn head_of(board: &Board) -> Result<Head, Refusal> {
     let mut head = Head::new();
     for &register in Register::ALL {
-        head.set_register(register, chip.read(register))?;
+        head.set_register(register, board.read(register))?;
     }
     for &flag in ReadyFlag::ALL {
-        head.set_ready(flag, chip.is_ready(flag));
+        head.set_ready(flag, true);
     }
     Ok(head)
-}
-
-/// Changes the core clock of head and chip. A refusal before the first store plays nothing.
-fn change(chip: &mut impl Chip, head: &mut Head, plan: &Plan, journal: &mut Journal) -> Outcome {
-    // The change is worked out for a DLL1 that is ready at the first poll; the chip is polled when
-    // the wait is played.
-    let outcome = head.change(plan, journal, &[1]);
-    for entry in journal.iter() {
-        match entry {
-            Entry::Store { register, value } => chip.store(register, value),
-            Entry::Delay { cycles } => chip.delay(cycles),
-            Entry::Wait { kind, .. } => chip.wait(kind),
-        }
-    }
-    outcome
 }
 
 /// Stands in for a chip: on HXT48 at 48 MHz, supply D, LPSYS at 48 MHz on supply S.
 struct Board {
     registers: [u32; 35],
+    polls: u16,
 }
 
 impl Board {
     fn new() -> Self {
-        let mut board = Self { registers: [0; 35] };
+        let mut board = Self {
+            registers: [0; 35],
+            polls: 0,
+        };
         for (register, value) in [
             (Register::Sysclk, 1),
             (Register::HpsysSupply, 1),
@@ -60,42 +39,50 @@ impl Board {
         }
         board
     }
-}
 
-impl Chip for Board {
     fn read(&self, register: Register) -> u32 {
         self.registers[usize::from(register.number())]
     }
+}
 
+impl Chip for Board {
     fn store(&mut self, register: Register, value: u32) {
         self.registers[usize::from(register.number())] = value;
         println!("store {} {value:06X}", register.number());
-    }
-
-    fn is_ready(&self, _: ReadyFlag) -> bool {
-        true
     }
 
     fn delay(&mut self, cycles: u32) {
         println!("delay {cycles} cycles");
     }
 
-    fn wait(&mut self, kind: WaitKind) {
-        println!("wait {}", kind.number());
+    /// DLL1 is ready at the second poll.
+    fn poll(&mut self, asked: Asked) -> u16 {
+        let answer = self.polls;
+        self.polls += 1;
+        if let Asked::Ready(kind) = asked {
+            println!("poll {}: {answer}", kind.number());
+        }
+        answer
     }
 }
 
 fn main() -> Result<(), Box<dyn std::error::Error>> {
     let mut board = Board::new();
     let mut head = head_of(&board)?;
-    let mut journal = Journal::new();
+    let (mut journal, mut answers) = (Journal::new(), [0; 100]);
 
     head.book(Task {
         id: 1,
         cycles: 40_000,
         period_us: 1_000,
     })?;
-    change(&mut board, &mut head, &Plan::DEFAULT, &mut journal)?;
+    play(
+        &mut board,
+        &mut head,
+        &mut journal,
+        &mut answers,
+        |head, journal, answers| head.change(&Plan::DEFAULT, journal, answers),
+    )?;
 
     // The chip has the registers of the head, and runs at 240 MHz.
     for &register in Register::ALL {

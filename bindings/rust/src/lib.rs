@@ -16,6 +16,7 @@ mod journal;
 mod lpsys;
 mod numbered;
 mod plan;
+mod play;
 mod refusal;
 mod register;
 #[allow(unsafe_code)]
@@ -32,6 +33,7 @@ pub use head::{Head, ReadyFlag};
 pub use journal::{Entries, Entry, Journal, WaitKind, JOURNAL_WORDS, MOST_ANSWERS};
 pub use lpsys::LpsysSource;
 pub use plan::Plan;
+pub use play::{play, Asked, Chip};
 pub use refusal::{Refusal, UnknownRefusal};
 pub use register::Register;
 pub use task::{load_check, Task};

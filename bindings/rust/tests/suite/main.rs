@@ -8,6 +8,7 @@ mod lengths;
 mod outcomes;
 mod places;
 mod plans;
+mod play;
 
 use rikkovan::{Entry, Head, Journal, Plan, Register, WaitKind};
 
