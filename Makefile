@@ -81,6 +81,10 @@ build/rikkovan-faults: tests/rikkovan/faults.c build/rikkovan
 build/rikkovan-sanitized: build/rikkovan
 	$(CC) -std=c99 $(STRICT) $(SANITIZE) -Iinclude -o $@ $(PROGRAM) $(LIBRARY)
 
+build/firmware: examples/firmware.c examples/play.c examples/play.h include/rikkovan.h $(LIBRARY)
+	@mkdir -p build
+	$(CC) -std=c99 $(STRICT) $(CFLAGS) -Iinclude -o $@ examples/firmware.c examples/play.c $(LIBRARY)
+
 target/bin/lpset target/bin/replay: target/bin/%: $(SOURCES)
 	$(RT) check $*
 
