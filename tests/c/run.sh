@@ -1,6 +1,6 @@
 #!/usr/bin/env bash
-# Tests the header, the library and the daemon, and what make install writes. Run by `make test-c`,
-# which builds the library, the daemon and the programs first. Prints a line for each test.
+# Tests the header, the library and the examples, and what make install writes. Run by `make
+# test-c`, which builds the library, the daemon and the programs first. Prints a line for each test.
 set -uo pipefail
 cd "$(dirname "$0")/../.." || exit
 unset MAKEFLAGS
