@@ -6,6 +6,8 @@
 #include "play.h"
 
 #define ALWAYS 0xFFFFFFFF
+#define RIGHT_TRIM 333
+#define NO_TRIM 2000
 #define MOST_LOGGED 100
 #define POLLS 80
 
@@ -16,6 +18,7 @@ struct board {
     uint32_t waits; /* the waits that end; in all further ones it is never ready */
     uint32_t left;  /* the entries that reach it yet, after which the player is stopped */
     uint32_t polls; /* the polls of the present wait */
+    uint32_t trim;  /* that at which HRC48 is right; each step off it is eight counts */
     uint32_t logged, log[MOST_LOGGED];
 };
 
@@ -48,15 +51,10 @@ static uint16_t end_wait(struct board *board, uint32_t kind, uint32_t counts)
     return 0x0100;
 }
 
-/* HRC48 is right at this trim, and each step of the trim is eight counts. */
-#define RIGHT_TRIM 333
-
 static uint16_t hrc_count(struct board *board)
 {
-    uint32_t trim = board->reg[RIKKOVAN_REG_HRC_TRIM];
-
     end_wait(board, RIKKOVAN_WAIT_CALIBRATION, 2);
-    return (uint16_t)(20000 + 8 * trim - 8 * RIGHT_TRIM);
+    return (uint16_t)(20000 + 8 * board->reg[RIKKOVAN_REG_HRC_TRIM] - 8 * board->trim);
 }
 
 static uint16_t answer_poll(void *self, uint32_t asked)
@@ -89,6 +87,7 @@ static struct board board_of(const uint8_t *head, uint32_t late, uint32_t waits,
     board.late = late;
     board.waits = waits;
     board.left = left;
+    board.trim = RIGHT_TRIM;
     for (reg = 1; reg <= RIKKOVAN_REGISTERS; reg++)
         board.reg[reg] = rikkovan_get_register(head, reg);
     return board;
@@ -352,16 +351,31 @@ static void test_trim(void)
     expect("trim", "trim", RIGHT_TRIM + 3, board.reg[RIKKOVAN_REG_HRC_TRIM]);
 }
 
-/* A refusal before the first store plays nothing. */
+/* Refused before the first store, on the way, and at the end, since no trim makes HRC48 right. */
 static void test_refused(void)
 {
-    static const struct play_case one = {"refused", CHANGE, {ON_D(9, 6)}, {{0, 0}}, 1};
-    const struct state before = begin(&one);
-    struct board board = board_of(before.head, 0, ALWAYS, ALWAYS);
-    const rikkovan_answer answer = test_played(&one, &board);
+    static const struct {
+        struct play_case one;
+        uint32_t refusal, entries;
+    } refused[] = {
+        {{"not fit", CHANGE, {ON_D(9, 6)}, {{0, 0}}, 0}, RIKKOVAN_REFUSED_UNFIT, 0},
+        {{"HCLK does not read", WAKE, {{C(SYSCLK), RIKKOVAN_CORE_DBL96}}, {{0, 0}}, 0},
+         RIKKOVAN_REFUSED_HCLK_UNREADABLE, 1},
+        {{"no trim", CALIBRATE, {{0, 0}}, {{0, 0}}, 11}, RIKKOVAN_REFUSED_DIFFERENCE, 57},
+    };
+    size_t k;
 
-    expect("refused", "refusal", RIKKOVAN_REFUSED_UNFIT, rikkovan_refusal(answer));
-    expect("refused", "entries", 0, board.logged);
+    for (k = 0; k < sizeof refused / sizeof refused[0]; k++) {
+        const struct play_case *one = &refused[k].one;
+        const struct state before = begin(one);
+        struct board board = board_of(before.head, 1, ALWAYS, ALWAYS);
+
+        board.trim = NO_TRIM;
+        expect(one->name, "refusal", refused[k].refusal,
+               rikkovan_refusal(test_played(one, &board)));
+        expect(one->name, "entries", refused[k].entries, board.logged);
+        expect(one->name, "waits", one->waits, ALWAYS - board.waits);
+    }
 }
 
 /* Of a list of answers that is longer, as many are used as may be lent. */

@@ -7,9 +7,6 @@ use rikkovan::{
     Refusal, Register, WaitKind, MOST_ANSWERS,
 };
 
-/// HRC48 is right at this trim, and each step of the trim is eight counts.
-const RIGHT_TRIM: u32 = 333;
-
 /// The room for answers. Of one that times out two words are left, for the counts of a measurement.
 const ROOM: usize = 80;
 
@@ -25,6 +22,8 @@ struct Board {
     left: usize,
     /// The polls of the present wait.
     polls: u16,
+    /// The trim at which HRC48 is right; each step off it is eight counts.
+    trim: i32,
     log: Vec<Entry>,
 }
 
@@ -37,6 +36,7 @@ impl Board {
             waits: u32::MAX,
             left: usize::MAX,
             polls: 0,
+            trim: 333,
             log: Vec::new(),
         }
     }
@@ -68,8 +68,8 @@ impl Board {
 
     fn hrc_count(&mut self) -> u16 {
         self.end_wait(WaitKind::Calibration, 2);
-        let trim = self.head.register(Register::HrcTrim);
-        (20_000 + 8 * trim - 8 * RIGHT_TRIM) as u16
+        let trim = self.head.register(Register::HrcTrim) as i32;
+        (20_000 + 8 * (trim - self.trim)) as u16
     }
 }
 
@@ -294,16 +294,40 @@ fn counts_steer_the_stores() {
     let case = other(head("d48"), 6, Head::calibrate_hrc48);
     let mut board = Board::new(&case.head, 0);
     assert!(test_played(&case, &mut board).is_ok());
-    assert_eq!(board.head.register(Register::HrcTrim), RIGHT_TRIM + 3);
+    assert_eq!(board.head.register(Register::HrcTrim), 336);
 }
 
 #[test]
-fn a_refusal_before_the_first_store_plays_nothing() {
-    let case = change(head("d48-low-volts"), Plan::DEFAULT, 1);
-    let mut board = Board::new(&case.head, 0);
-    let outcome = test_played(&case, &mut board);
-    assert_eq!(outcome.unwrap_err().refusal, Refusal::Unfit);
-    assert_eq!(board.log, []);
+fn refused_before_the_first_store_on_the_way_and_at_the_end() {
+    let mut no_hclk = head("d48");
+    no_hclk
+        .set_register(Register::Sysclk, 2)
+        .expect("a register");
+    for (case, refusal, entries) in [
+        (
+            change(head("d48-low-volts"), Plan::DEFAULT, 0),
+            Refusal::Unfit,
+            0,
+        ),
+        (
+            other(no_hclk, 0, Head::wake_lcpu),
+            Refusal::HclkUnreadable,
+            1,
+        ),
+        (
+            other(head("d48"), 11, Head::calibrate_hrc48),
+            Refusal::Difference,
+            57,
+        ),
+    ] {
+        let mut board = Board::new(&case.head, 1);
+        // No trim makes it right.
+        board.trim = 2_000;
+        let outcome = test_played(&case, &mut board);
+        assert_eq!(outcome.unwrap_err().refusal, refusal);
+        assert_eq!(board.log.len(), entries);
+        assert_eq!(u32::MAX - board.waits, case.waits);
+    }
 }
 
 #[test]
