@@ -228,32 +228,18 @@ static void test_ready(const struct play_case *one, uint32_t late, uint32_t wait
         expect(one->name, "taken", POLLS - 2, rikkovan_taken(answer));
 }
 
-/* What the rails of a head carry, in Hz. */
-static uint32_t rail_limit(const uint8_t *head)
-{
-    const int on_d = head[C(HPSYS_SUPPLY)] == RIKKOVAN_HPSYS_SUPPLY_D;
-    const uint8_t buck = on_d ? head[C(SET_VOUT_M)] : head[C(BUCK_VOUT)];
-    const uint8_t ldo = on_d ? head[C(HPSYS_LDO)] : head[C(HPSYS_VOUT)];
-
-    if (on_d && buck >= RIKKOVAN_D1_BUCK && ldo >= RIKKOVAN_D1_LDO)
-        return RIKKOVAN_D1_MOST_HZ;
-    if (on_d)
-        return buck >= RIKKOVAN_D0_BUCK && ldo >= RIKKOVAN_D0_LDO ? RIKKOVAN_D0_MOST_HZ : 0;
-    if (buck >= RIKKOVAN_S1_BUCK && ldo >= RIKKOVAN_S1_LDO)
-        return RIKKOVAN_S1_MOST_HZ;
-    return buck >= RIKKOVAN_S0_BUCK && ldo >= RIKKOVAN_S0_LDO ? RIKKOVAN_S0_MOST_HZ : 0;
-}
-
-/* HCLK reads and is within the rails, and no flash is on a DLL that is off. */
+/* By the library's own readings HCLK reads and is within the rails, and the head is fit. */
 static void expect_within_limits(const char *name, const uint8_t *head)
 {
     uint32_t clocks[RIKKOVAN_CLOCKS];
+    uint64_t fit[RIKKOVAN_FIT_NUMBERS];
 
-    expect(name, "readings", 0, rikkovan_read_clocks(head, RIKKOVAN_HEAD_BYTES, clocks).word);
+    expect(name, "clocks", 0, rikkovan_read_clocks(head, RIKKOVAN_HEAD_BYTES, clocks).word);
+    expect(name, "fit", 0, rikkovan_read_fit(head, RIKKOVAN_HEAD_BYTES, fit).word);
     expect(name, "HCLK reads", 1, clocks[RIKKOVAN_CLOCK_HCLK] > 0);
-    expect(name, "HCLK within the rails", 1, clocks[RIKKOVAN_CLOCK_HCLK] <= rail_limit(head));
-    expect(name, "flash 1 is clocked", 1, clocks[RIKKOVAN_CLOCK_MPI1] > 0);
-    expect(name, "flash 2 is clocked", 1, clocks[RIKKOVAN_CLOCK_MPI2] > 0);
+    expect(name, "HCLK within the rails", 1,
+           clocks[RIKKOVAN_CLOCK_HCLK] <= fit[RIKKOVAN_FIT_RAIL_LIMIT]);
+    expect(name, rikkovan_unfit_text(rikkovan_unfit(fit)), RIKKOVAN_FIT, rikkovan_unfit(fit));
 }
 
 /* A head read from a board on which a change was cut off is within its limits, and changes. */

@@ -3,8 +3,8 @@
 
 use crate::{changed, head, plan};
 use rikkovan::{
-    play, Asked, Chip, Clocks, Entry, Head, Hertz, Journal, Megahertz, Outcome, Plan, ReadyFlag,
-    Refusal, Register, WaitKind, MOST_ANSWERS,
+    play, Asked, Chip, Clocks, Entry, Head, Journal, Megahertz, Outcome, Plan, ReadyFlag, Refusal,
+    Register, WaitKind, MOST_ANSWERS,
 };
 
 /// The room for answers. Of one that times out two words are left, for the counts of a measurement.
@@ -243,25 +243,6 @@ fn ready_at_once_or_late_or_never() {
     }
 }
 
-/// What the rails of a head carry.
-fn rail_limit(head: &Head) -> Hertz {
-    let rails = |buck, ldo| (head.register(buck), head.register(ldo));
-    let most = |rows: [(u32, u32, u32); 2], (buck, ldo): (u32, u32)| {
-        let row = rows.iter().find(|row| buck >= row.0 && ldo >= row.1);
-        Hertz::mhz(row.map_or(0, |row| row.2))
-    };
-    match head.register(Register::HpsysSupply) {
-        0 => most(
-            [(15, 13, 240), (13, 11, 144)],
-            rails(Register::BuckVout, Register::HpsysVout),
-        ),
-        _ => most(
-            [(10, 8, 48), (9, 6, 24)],
-            rails(Register::SetVoutM, Register::HpsysLdo),
-        ),
-    }
-}
-
 #[test]
 fn stopped_after_each_entry_the_chip_has_a_moment_of_the_call() {
     for case in cases() {
@@ -280,11 +261,12 @@ fn stopped_after_each_entry_the_chip_has_a_moment_of_the_call() {
     }
 }
 
-/// A head read from a board on which a change was cut off is within its limits, and changes.
+/// A head read from a board on which a change was cut off is within its limits by the library's own
+/// readings, and changes.
 fn test_changed_again(case: &Case, cut: &Head) {
-    let clocks = cut.clocks();
-    assert!(clocks.hclk.expect("HCLK reads") <= rail_limit(cut));
-    assert!(clocks.clk_mpi1.is_some() && clocks.clk_mpi2.is_some());
+    let fit = cut.fit();
+    assert!(cut.clocks().hclk.expect("HCLK reads") <= fit.rail_limit);
+    assert_eq!(fit.unfit, None);
     let (outcome, ..) = play_case(case, &mut Board::new(cut, 0));
     assert!(outcome.is_ok());
 }
