@@ -8,7 +8,7 @@ CC = cc
 CXX = g++
 CFLAGS = -O2
 STRICT = -Wall -Wextra -pedantic -Wconversion -Wsign-conversion -Werror
-RT = tools/rt.sh
+PROVE = tools/prove.sh
 # Cargo takes no part in make's own count of jobs.
 CARGO = MAKEFLAGS= cargo
 WITH_CRATE = --quiet --offline --manifest-path bindings/rust/Cargo.toml
@@ -35,7 +35,7 @@ PLANS = $(sort $(wildcard examples/plans/*.plan))
 TASKS = $(sort $(wildcard examples/tasks/*.tasks))
 
 .DELETE_ON_ERROR:
-.PHONY: help lib run test measure contracts spec test-c test-rust test-programs test-fuzz fuzz test-oracle oracle compare compare-quick compare-plans compare-heads evidence record bench plans tasks heads install uninstall clean
+.PHONY: help lib run test measure contracts spec test-c test-rust test-programs test-prove test-fuzz fuzz test-oracle oracle compare compare-quick compare-plans compare-heads evidence record bench plans tasks heads install uninstall clean
 
 help:
 	@echo 'make run            prove the library, then check the example plans and tasks through it'
@@ -61,8 +61,8 @@ lib: $(LIBRARY)
 
 # rt check proves several crates at a time, rt staticlib one after the other.
 $(LIBRARY): $(SOURCES)
-	test -d target/rlib/rikkovan.rlib || $(RT) check rikkovan
-	$(RT) staticlib rikkovan
+	@test -d target/rlib/rikkovan.rlib || $(PROVE) 'prove the library' check rikkovan
+	@$(PROVE) 'write $(LIBRARY)' staticlib rikkovan
 
 build/daemon: examples/daemon.c include/rikkovan.h $(LIBRARY)
 	@mkdir -p build
@@ -86,7 +86,7 @@ build/firmware: examples/firmware.c examples/play.c examples/play.h include/rikk
 	$(CC) -std=c99 $(STRICT) $(CFLAGS) -Iinclude -o $@ examples/firmware.c examples/play.c $(LIBRARY)
 
 target/bin/lpset target/bin/replay: target/bin/%: $(SOURCES)
-	$(RT) check $*
+	@$(PROVE) 'prove the program $*' check $*
 
 # Some of the files are refused on purpose, and the status is then 1.
 run: build/rikkovan
@@ -136,6 +136,9 @@ test-programs: $(PROGRAMS) target/bin/replay
 	@tests/lpset/run.sh
 	@CC='$(CC)' tests/rikkovan/run.sh
 	@tests/replay/run.sh
+
+test-prove:
+	@tests/prove/run.sh
 
 test-oracle:
 	$(CARGO) test --quiet --offline --manifest-path oracle/Cargo.toml --lib

@@ -23,8 +23,14 @@ has_memory_folder() {
 }
 
 export RT_JOBS=${RT_JOBS:-$(jobs)}
-# A check copies the libraries below its crate, some 100 MB, to a temporary folder; one in memory saves a second of each.
+# A check copies the libraries below its crate, some 100 MB, to a temporary folder; one in memory saves a second of each. A check that is
+# ended leaves its copy, so the folder is removed here. The programs that rt runs as nobody pass through it.
 if [ -z "${TMPDIR:-}" ] && has_memory_folder; then
-    export TMPDIR=/dev/shm
+    TMPDIR=$(mktemp -d /dev/shm/rikkovan.XXXXXX)
+    export TMPDIR
+    trap 'rm -rf "$TMPDIR"' EXIT
+    chmod 711 "$TMPDIR"
+    rt "$@"
+    exit
 fi
 exec rt "$@"

@@ -7,7 +7,6 @@ exec </dev/null
 PATH=$PATH:${HOME:-/root}/.cargo/bin
 
 logs=$(mktemp -d)
-log=$logs/rt
 declare -A begun
 trap leave EXIT
 
@@ -57,9 +56,16 @@ contracts_are_made() {
     ! command -v python3 >/dev/null || tools/contracts.py --check
 }
 
+# In a process group of its own too, for leave to end.
 rt_ci() {
-    tools/rt.sh ci 2>&1 | tee "$log" || return
-    tail -n 1 "$log" | grep -qxE '[0-9]+ passed, 0 failed'
+    set -m
+    tools/prove.sh 'rt ci' ci &
+    set +m
+    begun[rt]=$!
+    wait "${begun[rt]}" || return
+    unset 'begun[rt]'
+    tally=$(tail -n 1 build/log/ci)
+    [[ $tally =~ ^[0-9]+' passed, 0 failed'$ ]]
 }
 
 sources=${SIFLI_SRC:-../shared/docs/src}
@@ -127,6 +133,7 @@ say_skipped
 stage 'list of crates' every_crate_is_listed
 stage 'docs/CONTRACTS.md and the sources' contracts_are_made
 stage 'a place for each definition' tools/spec.sh "$logs/spec.md"
+stage 'how far the prover is' tests/prove/run.sh
 rm -rf target
 begin oracle test_oracle
 begin library test_library
@@ -137,4 +144,4 @@ stage 'tests of the library and the programs' end library
 # When the static library is written, whose line counts the axioms of all that it links.
 stage 'axioms' tools/axioms.sh
 say "all passed ($SECONDS s)"
-tail -n 1 "$log"
+echo "$tally"

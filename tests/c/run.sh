@@ -169,10 +169,10 @@ daemon_on_unreadable() { # FILE
         grep "^daemon: $1: " "$work/errors"
 }
 
-# Library and programs are there, so that make install has nothing to prove: with RT=false it could
+# Library and programs are there, so that make install has nothing to prove: with PROVE=false it could
 # not.
 installs() {
-    make install RT=false PREFIX="$work/usr" &&
+    make install PROVE=false PREFIX="$work/usr" &&
         builds_and_runs "$work/installed" "$cc" -std=c99 "${strict[@]}" -I"$work/usr/include" \
             tests/c/header.c -L"$work/usr/lib" -lrikkovan
 }
@@ -185,7 +185,7 @@ installed_programs() {
 }
 
 installs_below_destdir() {
-    make install RT=false DESTDIR="$work/a stage" PREFIX=/usr &&
+    make install PROVE=false DESTDIR="$work/a stage" PREFIX=/usr &&
         cmp include/rikkovan.h "$work/a stage/usr/include/rikkovan.h" &&
         cmp "$library" "$work/a stage/usr/lib/librikkovan.a" &&
         grep -x 'prefix=/usr' "$work/a stage/usr/lib/pkgconfig/rikkovan.pc"
