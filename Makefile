@@ -56,6 +56,7 @@ help:
 	@echo 'make measure        the whole test, with the time and memory of each crate and edit'
 	@echo 'make plans          write examples/plans anew (make tasks, make heads: the others)'
 	@echo 'make clean          remove what was built'
+	@echo 'The long ones say how far they are on standard error; what the prover says goes to build/log.'
 
 lib: $(LIBRARY)
 

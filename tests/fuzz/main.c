@@ -16,6 +16,7 @@
 #include <sys/mman.h>
 #include <sys/time.h>
 #include <sys/wait.h>
+#include <time.h>
 #include <unistd.h>
 
 #define MOST_BYTES 256u
@@ -76,23 +77,64 @@ static void limit_time(void)
     setitimer(ITIMER_PROF, &limit, NULL);
 }
 
+/* Whether standard error is a terminal on which a line can be written over. */
+static int is_moving(void)
+{
+    const char *term = getenv("TERM");
+
+    return isatty(STDERR_FILENO) && term != NULL && strcmp(term, "dumb") != 0;
+}
+
+static void clear_line(void)
+{
+    if (is_moving())
+        fprintf(stderr, "\r\033[K");
+}
+
+/* Says how far the runs are, with the time so far and the time that the rest takes at that rate. */
+static void show(uint64_t present, uint64_t runs, uint64_t seconds)
+{
+    uint64_t left = present == 0 ? 0 : seconds * (runs - present) / present;
+
+    clear_line();
+    fprintf(stderr, "fuzz: %lu of %lu runs (%lu:%02lu, about %lu:%02lu left)%s",
+            (unsigned long)present, (unsigned long)runs, (unsigned long)seconds / 60,
+            (unsigned long)seconds % 60, (unsigned long)left / 60, (unsigned long)left % 60,
+            is_moving() ? "" : "\n");
+}
+
+/* Waits for the process that makes the runs, and says each second or each ten how far it is. */
+static pid_t await(pid_t child, int *status, const volatile uint64_t *present, uint64_t runs)
+{
+    const struct timespec nap = {0, 50000000};
+    const time_t began = time(NULL), every = is_moving() ? 1 : 10;
+    time_t shown = began, now;
+    pid_t ended;
+
+    while ((ended = waitpid(child, status, WNOHANG)) == 0) {
+        nanosleep(&nap, NULL);
+        now = time(NULL);
+        if (now - shown < every || *present >= runs)
+            continue;
+        shown = now;
+        show(*present, runs, (uint64_t)(now - began));
+    }
+    return ended;
+}
+
 /* Makes the runs, with the number of the present one where the parent sees it. */
 static void make_runs(uint64_t runs, uint64_t seed, volatile uint64_t *present)
 {
     struct bytes bytes;
-    uint64_t step = runs < 5 ? 1 : runs / 5;
     int k;
 
     for (*present = 0; *present < runs; ++*present) {
         if (*present % 4096 == 0)
             limit_time();
-        if (*present % step == 0 && *present != 0) {
-            printf("fuzz: %lu runs passed\n", (unsigned long)*present);
-            fflush(stdout);
-        }
         generate(seed, *present, &bytes);
         fuzz_one(bytes.at, bytes.size);
     }
+    clear_line();
     for (k = 0; k < CALLS; k++)
         print_answers(&calls[k], answered[k]);
 }
@@ -179,10 +221,11 @@ static int run_all(const char *program, uint64_t runs, uint64_t seed)
         fflush(stdout);
         _exit(0);
     }
-    if (child < 0 || waitpid(child, &status, 0) != child) {
+    if (child < 0 || await(child, &status, present, runs) != child) {
         perror("fuzz");
         return 2;
     }
+    clear_line();
     if (status == 0) {
         printf("fuzz: all passed\n");
         return 0;
