@@ -92,6 +92,8 @@ read_on() {
         line=$part$line part=''
         if [[ $line =~ ^rt:\ must-fail\ ([^ ]+):\  || $line =~ ^rt:\ ([a-z_0-9]+)\ (NOT PROVED|proved\ \() ]]; then
             line_of[${BASH_REMATCH[1]}]=$line
+        elif [[ $line =~ ^rt:\ target/staticlib/lib([a-z_0-9]+)\.a\ has\  ]]; then
+            line_of[${BASH_REMATCH[1]}]="rt: ${BASH_REMATCH[1]} proved (and its archive written)"
         fi
     done
     part+=$line

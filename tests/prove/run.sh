@@ -45,6 +45,10 @@ echo 'rt: high NOT PROVED (exit 1, 3 s)'
 echo 'rt: FAILED: high'
 exit 1
 PLAY
+cat >"$work/archives" <<'PLAY'
+echo 'rt: low proved (unchanged since it was last proved)'
+echo 'rt: target/staticlib/libhigh.a has the functions of high that are marked #[no_mangle] pub extern "C"'
+PLAY
 echo 'echo "rt: low proved (1 s)"; kill -KILL $$' >"$work/dies"
 echo 'echo "rt: crates.txt: line 3: expected NAME: DEP DEP ..." >&2; exit 2' >"$work/cannot"
 echo 'sleep 1000 & echo $! >sleeper; wait' >"$work/goes_on"
@@ -107,6 +111,10 @@ cannot() {
     plays 2 cannot check high && grep -qx 'rt: crates.txt: line 3: expected NAME: DEP DEP ...' "$work/out"
 }
 
+writes_archive() {
+    plays 0 archives staticlib high && says 'try it: 2 of 2 crates (0:0?)'
+}
+
 # One that has ended may wait for its parent.
 runs() { # PROCESS
     grep -q '^State:[[:space:]]*[^Z[:space:]]' "/proc/$1/status"
@@ -150,6 +158,7 @@ check 'a run that passes' passes
 check 'the log has all that rt said' keeps_every_line
 check 'the time left, by the last run' knows_the_time_left
 check 'a crate that is not proved' fails
+check 'a static library' writes_archive
 check 'rt is killed' dies
 check 'rt does nothing' cannot
 check 'an interrupt ends all' is_ended_by INT 130
