@@ -1,5 +1,6 @@
 pub mod Heads
 pub mod Written
+pub mod Most
 pub mod Never
 pub mod Counts
 pub mod Performed

@@ -3,26 +3,17 @@ use Prim.Native.Nat.{ℕ, _<_}
 use mathlib.Core.Path.{_≡_, refl, sym, subst}
 use mathlib.Core.Bool.{Bool, true, false, false≢true, cond, not, _&&_, _||_}
 use mathlib.Core.List.{List, [], _∷_, _++_}
+use native.Mathlib.Omega.{arith}
 use lib.Dec.{eqb, ltb}
-use lib.ListN.{length, getD}
+use lib.ListN.{length}
 use borrow.Author.Tests.{ltb-true}
-use Rattle.record.specs.Bytes.{twoBytes}
 use Rattle.record.specs.Refusals.{refuse, firstOf}
 use Rattle.record.proofs.Bytes.{and-left}
 use Rattle.clock.specs.declared.MaybeDll.{MaybeDll}
 use Rattle.clock.specs.declared.MaybeDll.the-variants.{Absent, Present}
-use Rattle.plan.specs.declared.Plan.{Plan}
-use Rattle.plan.specs.declared.bytes.Decoded.the-variants.{Read, Unread}
-use Rattle.plan.specs.codes.{coded}
-use Rattle.plan.specs.Plan.{legal}
-use Rattle.plan.specs.tests.{recordTests}
-use Rattle.plan.specs.bytes.{planOf, recordRefusal, decoded}
-use Rattle.plan_clocks.specs.Clocks.{maybeWholeHz, sysHz, hclkHz, pclk1Hz, pclk2Hz, usbHz}
-use Rattle.limits.specs.Limits.{coreOnAbsentDll1, coreOnDbl96, flashOnAbsentDll, usbOnAbsentDll2}
-use Rattle.limits.specs.Limits.{usbNot60, dll1CoreTooSlow, hclkTooFast, pclk1TooFast, pclk2TooFast, dll2TooFast}
-use Rattle.verdict.specs.tests.{frequencyTests, planTests, planRefusal}
-use Rattle.verdict.specs.Verdict.{judged, verdict, numberOf}
-use Rattle.verdict.proofs.Passed.{number-is}
+use Rattle.plan.specs.bytes.{planOf}
+use Rattle.plan_clocks.specs.Clocks.{hclkHz}
+use Rattle.verdict.specs.Verdict.{verdict, numberOf}
 use Rattle.task.specs.declared.Task.{Task}
 use Rattle.task.specs.Task.{taskOk, hasId}
 use Rattle.head.specs.declared.Head.{Head}
@@ -40,6 +31,7 @@ use Rattle.guard.specs.tests.{unready, overloaded, guardTests}
 use Rattle.guard.specs.Guard.{changeTests, changeRefusal}
 use Rattle.claim.specs.Moment.{oneReady, stopFor}
 use Rattle.claim.specs.Claim.{FitHead}
+use Rattle.claim.proofs.Most.{verdict-most}
 
 pub record Never (n : ℕ) : Type 0 where
   pub unfit : n ≡ 37 → ⊥
@@ -76,42 +68,8 @@ each (n ∷ ns) x = by (eqb n 0) (each ns (x .1)) (x .0)
     by false rest first = first
 
 -- a plan's 1 to 14
-bytes : (pb : List ℕ) → Never (recordRefusal pb)
-unfolding recordRefusal
-bytes pb = each (recordTests pb) (
-  other 1 refl (not (eqb (length pb) 20)),
-  (other 1 refl (not (eqb (twoBytes (getD pb 0 0) (getD pb 1 0)) 18)), (other 2 refl (not (eqb (getD pb 2 0) 1)), (other 3 refl (not (coded pb)), tt))),
-)
-
-clocks : (p : Plan) → Each (frequencyTests p)
-clocks p = (
-  other 9 refl (usbNot60 (p .usb) (usbHz p)),
-  (
-    other 10 refl (dll1CoreTooSlow (p .sys) (sysHz p)),
-    (
-      other 11 refl (hclkTooFast (hclkHz p)),
-      (other 12 refl (pclk1TooFast (hclkHz p) (pclk1Hz p)), (other 13 refl (pclk2TooFast (hclkHz p) (pclk2Hz p)), (other 14 refl (dll2TooFast (hclkHz p) (maybeWholeHz (p .dll2))), tt))),
-    ),
-  ),
-)
-
-plan : (p : Plan) → Never (planRefusal p)
-unfolding planRefusal
-plan p = each (planTests p) (
-  other 3 refl (not (legal p)),
-  (
-    other 4 refl (coreOnAbsentDll1 p),
-    (other 5 refl (coreOnDbl96 p), (other 6 refl (flashOnAbsentDll (p .mpi1sel) p), (other 7 refl (flashOnAbsentDll (p .mpi2sel) p), (other 8 refl (usbOnAbsentDll2 p), clocks p)))),
-  ),
-)
-
 verdicts : (pb : List ℕ) → Never (numberOf (verdict pb))
-unfolding verdict decoded
-verdicts pb = by (eqb (recordRefusal pb) 0)
-  where
-    by : (t : Bool) → Never (numberOf (judged (cond t (Read (planOf pb)) (Unread (recordRefusal pb)))))
-    by true = subst Never (sym (number-is (planOf pb))) (plan (planOf pb))
-    by false = bytes pb
+verdicts pb = let most = verdict-most pb in record { unfit = λ q. omega (arith, q, most); unread = λ q. omega (arith, q, most); small = omega (arith, most) }
 
 -- the tests of the four calls on a fit head
 module _ (b : List ℕ) (fit : FitHead b) where

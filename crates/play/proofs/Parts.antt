@@ -43,7 +43,7 @@ use Rattle.calibration.specs.search.{nextTrim, adjusted, search}
 use Rattle.calibration.specs.Calibration.{calibrate, calibrateHrc48On, calibrateHrc48}
 use Rattle.calibration.proofs.search.Laws.{still-adjusted, still-search}
 use Rattle.init_first.specs.begin.{startHxt48On, startHxt48, initBegin}
-use Rattle.init_first.specs.warning.{swallowed}
+use Rattle.init_first.specs.warning.{isWarning, swallowed}
 use Rattle.init_first.specs.First.{bootStores, leaveHrc48On, leaveHrc48, calibrating, initFirst}
 use Rattle.init_rest.specs.selects.{plannedUsb, plannedMuxes}
 use Rattle.init_rest.specs.Rest.{isSet, moveDll2, setDll2On, setDll2, plannedDll2, initRest}
@@ -52,7 +52,7 @@ use Rattle.clock_init.specs.Init.{boot, initOn, init}
 use Rattle.lpsys_wake.specs.count.{counted, countUp}
 use Rattle.lpsys_wake.specs.hxt48.{requestHxt48Unless, requestHxt48, requestLpsysHxt48Unless, requestLpsysHxt48, hxt48Ready}
 use Rattle.lpsys_wake.specs.Wake.{wakeFirst, wake}
-use Rattle.play.proofs.Plays.{Adds, adds-none, adds-then, Onward, same, out, Plays, plays-then, plays-if, plays-on-head, Mute, mute-takes}
+use Rattle.play.proofs.Plays.{Adds, adds-none, adds-then, further, Onward, same, out, Plays, plays-then, plays-if, plays-on-head, Mute, mute-takes}
 use Rattle.play.proofs.Plays.{plays-mute, mute-idle, mute-store, mute-delay, mute-halted, mute-head, mute-then, mute-if, mute-on-head}
 use Rattle.play.proofs.Plays.{plays-wait, plays-measure, plays-wait-hxt48, plays-wait-lpsys-hxt48}
 
@@ -162,8 +162,8 @@ plays-to-plan p =
   where
     by : (x y : HpsysModeFound) → Plays (transition x y p)
     by (Mode current) (Mode target) = plays-then (plays-then (plays-mute (first current target)) (configures p)) (plays-mute (second current target))
-    by (Mode current) OutOfRange = plays-mute (mute-halted 35)
-    by OutOfRange target = plays-mute (mute-halted 35)
+    by (Mode current) OutOfRange = plays-mute (mute-halted 35 (λ q. omega (arith, q)))
+    by OutOfRange target = plays-mute (mute-halted 35 (λ q. omega (arith, q)))
 
 -- the calibration: a measurement that came to its end has taken two answers, which are the same with more
 measures : (trim : ℕ) → Plays (measurement trim)
@@ -205,7 +205,7 @@ two-taken trim a r z =
 
 judged : (d : ℕ) → Mute (judgedDifference d)
 unfolding judgedDifference
-judged d = mute-if (ltb 160 d) (mute-halted 33) mute-idle
+judged d = mute-if (ltb 160 d) (mute-halted 33 (λ q. omega (arith, q))) mute-idle
 
 -- one turn of the search, whose turns left are `more`
 module _ (trim step : ℕ) (more : ℕ → ℕ → List ℕ → Effect) (plays : (t d : ℕ) → Plays (more t d)) (still : (t d : ℕ) (a : List ℕ) → Still (more t d a)) where
@@ -227,42 +227,42 @@ module _ (trim step : ℕ) (more : ℕ → ℕ → List ℕ → Effect) (plays :
       by false p q = q
 
   -- where the counts are the same with more answers
-  turned-onward : (a x : List ℕ) (r : Run) → r .taken ≤ length a → hxtCnt (a ++ x) r ≡ hxtCnt a r → hrcCnt (a ++ x) r ≡ hrcCnt a r → Onward a (turned a r) (turned (a ++ x) r)
+  turned-onward : (a x : List ℕ) (r : Run) → r .taken ≤ length a → (r .stop ≡ 36 → ⊥) → hxtCnt (a ++ x) r ≡ hxtCnt a r → hrcCnt (a ++ x) r ≡ hrcCnt a r → Onward a x (turned a r) (turned (a ++ x) r)
   unfolding adjusted
-  turned-onward a x r k e f =
+  turned-onward a x r k z e f =
       let d = difference (hxtCnt a r) (hrcCnt a r) in
       let t = nextTrim trim step (hxtCnt a r) (hrcCnt a r) in
-      rw (e, f) (by (ltb d 64) (plays-mute (judged d) .onward a x r k) (plays t d .onward a x r k))
+      rw (e, f) (by (ltb d 64) (plays-mute (judged d) .onward a x r k z) (plays t d .onward a x r k z))
     where
-      by : {p q p' q' : Run} (t : Bool) → Onward a p p' → Onward a q q' → Onward a (cond t p q) (cond t p' q')
+      by : {p q p' q' : Run} (t : Bool) → Onward a x p p' → Onward a x q q' → Onward a x (cond t p q) (cond t p' q')
       by true u v = u
       by false u v = v
 
-  goes-on : (a x : List ℕ) (r : Run) → r .taken ≤ length a → (r .stop ≡ 0 → 2 ≤ r .taken) → Onward a (turned a r) (turned (a ++ x) r)
-  goes-on a x r k two = by (eqb (r .stop) 0) refl
+  goes-on : (a x : List ℕ) (r : Run) → r .taken ≤ length a → (r .stop ≡ 36 → ⊥) → (r .stop ≡ 0 → 2 ≤ r .taken) → Onward a x (turned a r) (turned (a ++ x) r)
+  goes-on a x r k y two = by (eqb (r .stop) 0) refl
     where
-      by : (t : Bool) → eqb (r .stop) 0 ≡ t → Onward a (turned a r) (turned (a ++ x) r)
+      by : (t : Bool) → eqb (r .stop) 0 ≡ t → Onward a x (turned a r) (turned (a ++ x) r)
       by true e =
           let more-than-two = two (eqb-true (r .stop) 0 e) in
-          turned-onward a x r k
+          turned-onward a x r k y
           (List·getD-append a x 0 (r .taken - 2) (omega (arith, k, more-than-two)))
           (List·getD-append a x 0 (r .taken - 1) (omega (arith, k, more-than-two)))
       by false e =
           let z = eqb-false (r .stop) 0 e in
-          rw (stays a r z, stays (a ++ x) r z) (same refl k)
+          rw (stays a r z, stays (a ++ x) r z) (same refl k y)
 
   turn : Plays (λ (a : List ℕ). measurement trim a ▸ turned a)
   turn = record {
     ends = λ a r e. ap (turned a) (measures trim .ends a r e) ∙ stays a r (λ z. omega (arith, e, z));
     adds = λ a r. adds-then r (measurement trim a r) (turned a (measurement trim a r)) (measures trim .adds a r) (turned-adds a (measurement trim a r));
-    onward = λ a x r t. by a x r (measures trim .onward a x r t);
+    onward = λ a x r t z. by a x r (measures trim .onward a x r t z);
   }
     where
-      by : (a x : List ℕ) (r : Run) → Onward a (measurement trim a r) (measurement trim (a ++ x) r) → Onward a (turned a (measurement trim a r)) (turned (a ++ x) (measurement trim (a ++ x) r))
-      by a x r (same e k) = subst (λ (q : Run). Onward a (turned a (measurement trim a r)) (turned (a ++ x) q)) (sym e) (goes-on a x (measurement trim a r) k (two-taken trim a r))
-      by a x r (out s q) =
-          let on = adds-then _ _ (turned (a ++ x) (measurement trim (a ++ x) r)) q (turned-adds (a ++ x) (measurement trim (a ++ x) r)) in
-          subst (λ (z : Run). Onward a z (turned (a ++ x) (measurement trim (a ++ x) r))) (sym (stays a (measurement trim a r) (λ z. omega (arith, s, z)))) (out s on)
+      by : (a x : List ℕ) (r : Run) → Onward a x (measurement trim a r) (measurement trim (a ++ x) r) → Onward a x (turned a (measurement trim a r)) (turned (a ++ x) (measurement trim (a ++ x) r))
+      by a x r (same e k y) = subst (λ (q : Run). Onward a x (turned a (measurement trim a r)) (turned (a ++ x) q)) (sym e) (goes-on a x (measurement trim a r) k y (two-taken trim a r))
+      by a x r (out s q w) =
+          let r' = measurement trim (a ++ x) r in
+          further (stays a (measurement trim a r) (λ z. omega (arith, s, z))) s q w (turned-adds (a ++ x) r')
 
 searches : (n trim step d : ℕ) → Plays (search n trim step d)
 unfolding search
@@ -273,12 +273,16 @@ pub plays-calibrate : Plays calibrateHrc48
 unfolding calibrateHrc48 calibrate
 plays-calibrate =
     plays-on-head (λ (h : Head) (a : List ℕ). calibrateHrc48On a h)
-    (λ h. plays-if (h .«hxt48_ready») (plays-then (plays-mute (mute-then (mute-store 20 0x3fff) (mute-store 18 _))) (searches 11 0x200 0x100 0)) (plays-mute (mute-halted 31)))
+    (λ h. plays-if (h .«hxt48_ready») (plays-then (plays-mute (mute-then (mute-store 20 0x3fff) (mute-store 18 _))) (searches 11 0x200 0x100 0)) (plays-mute (mute-halted 31 (λ q. omega (arith, q)))))
 
 -- `init`
 swallows : Plays (λ (a : List ℕ). swallowed)
 unfolding swallowed
-swallows = record { ends = λ a r e. rw e; adds = λ a r. adds-none r _ refl; onward = λ a x r t. same refl t }
+swallows = record { ends = λ a r e. rw e; adds = λ a r. adds-none r _ refl; onward = λ a x r t z. same refl t (λ q. kept (isWarning (r .stop)) r z q) }
+  where
+    kept : (t : Bool) (r : Run) → (r .stop ≡ 36 → ⊥) → cond t 0 (r .stop) ≡ 36 → ⊥
+    kept true r z q = omega (arith, q)
+    kept false r z q = z q
 
 begins : Plays initBegin
 unfolding initBegin startHxt48
@@ -288,7 +292,7 @@ begins =
 
 leaves-hrc48 : Mute leaveHrc48
 unfolding leaveHrc48
-leaves-hrc48 = mute-on-head leaveHrc48On (λ h. mute-if (eqb (reg h 1) 0) (mute-if (h .«hxt48_ready») (mute-store 1 1) (mute-halted 32)) mute-idle)
+leaves-hrc48 = mute-on-head leaveHrc48On (λ h. mute-if (eqb (reg h 1) 0) (mute-if (h .«hxt48_ready») (mute-store 1 1) (mute-halted 32 (λ q. omega (arith, q)))) mute-idle)
 
 init-first : (p : Plan) → Plays (initFirst p)
 unfolding initFirst bootStores calibrating

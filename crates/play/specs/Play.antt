@@ -1,7 +1,7 @@
 -- A call lent some answers, and the same call lent more. Who plays a journal on the chip may make the stores of the first, poll, and go on.
 use Prim.Native.Nat.{ℕ, _+_, _*_}
 use mathlib.Core.Path.{_≡_}
-use mathlib.Core.List.{List, _∷_, _++_}
+use mathlib.Core.List.{List, [], _∷_, _++_}
 use lib.ListN.{take}
 use Rattle.journal.specs.Run.{entry, readyAfter, poll}
 use Rattle.call.specs.Call.{Result}
@@ -11,11 +11,22 @@ use Rattle.guard.specs.Guard.{changeRefusal, changeCall}
 abbrev pub entriesOf : Result → List ℕ
 entriesOf o = take (o .entries) (o .journal)
 
--- `o'` is the call lent more answers: its journal begins with that of `o`; where `o` did not run out of answers, "36 answers run out in a
--- wait or measurement", it is no other
-pub record GoesOn (o o' : Result) : Type 0 where
+-- answers that end any wait, and any measurement with its two counts
+abbrev pub endsAnyWait : List ℕ
+endsAnyWait = 1 ∷ 0 ∷ 0 ∷ []
+
+-- "Number 49 is a wait that ended"
+pub record BeginsWithWait (entries : List ℕ) : Type 0 where
+  pub value : ℕ
+  pub behind : List ℕ
+  pub first : entries ≡ entry 49 value ∷ behind
+
+-- `o'` is the call lent the answers `x` more: its journal begins with that of `o`; where `o` did not run out of answers, "36 answers run out
+-- in a wait or measurement", it is no other; and where it did, the next entry is that of the wait that it was in, if `x` ends any wait
+pub record GoesOn (x : List ℕ) (o o' : Result) : Type 0 where
   pub rest : List ℕ
   pub entries : entriesOf o' ≡ entriesOf o ++ rest
+  pub next : o .refusal ≡ 36 → x ≡ endsAnyWait → BeginsWithWait rest
   pub whole : (o .refusal ≡ 36 → ⊥) → (o' .refusal ≡ o .refusal) × (o' .buffer ≡ o .buffer) × (o' .journal ≡ o .journal)
 
 -- the journal of a guarded change around its wait, which is for DLL1: "Number 49 is a wait that ended: a is its kind (.. 3 DLL1 ..), b and c
