@@ -27,6 +27,8 @@ RUNS = 2000000
 RANDOM_GROUPS = $(COUNT:%=--count %) $(SECONDS:%=--seconds %) $(SEED:%=--seed %)
 
 LIBRARY = target/staticlib/librikkovan.a
+MODULE = target/module/rikkovan.ll
+CHIP_LIBRARY = target/chip/librikkovan.a
 PROGRAMS = target/bin/lpset build/rikkovan
 SOURCES = crates.txt $(shell find crates -name '*.rt' -o -name '*.antt')
 PROGRAM = $(wildcard program/*.c)
@@ -52,6 +54,10 @@ help:
 	@echo 'make record         write crates/replay/data anew from the Rust'
 	@echo 'make bench          measure every call beside the Rust'
 	@echo 'make contracts      write the tables of docs/CONTRACTS.md anew from the sources'
+	@echo 'make chip           build and test, not prove, the library for a Cortex-M33: $(CHIP_LIBRARY)'
+	@echo '                    (CHIP=thumbv8m.main-none-eabihf for hard float); chip-measure: stack and instructions there'
+	@echo 'make wasm           build and test, not prove, it as WebAssembly: target/wasm/rikkovan.wasm'
+	@echo 'make deps           install with apt what optional parts of the test need'
 	@echo 'make spec           write target/spec.md: every definition that the exports and the claim stand on'
 	@echo 'make measure        the whole test, with the time and memory of each crate and edit'
 	@echo 'make plans          write examples/plans anew (make tasks, make heads: the others)'
@@ -170,6 +176,35 @@ record: oracle
 
 bench: oracle
 	$(ORACLE) bench
+
+# The proved module for targets of which the kit promises nothing: tested builds, not proved ones (docs/CHIP.md).
+# The archive is always made again, since it may be there for another CHIP.
+.PHONY: chip chip-measure wasm deps $(CHIP_LIBRARY)
+
+$(MODULE): $(LIBRARY) tools/chip-module.sh tools/chip-layout.py
+	tools/chip-module.sh
+
+$(CHIP_LIBRARY): $(MODULE)
+	tools/chip.sh $(CHIP)
+
+target/wasm/rikkovan.wasm: $(MODULE) tools/chip.sh
+	tools/chip.sh wasm32-unknown-unknown
+
+build/calls.h: tests/chip/calls.awk tests/chip/calls.txt include/rikkovan.h
+	@mkdir -p build
+	awk -f tests/chip/calls.awk include/rikkovan.h tests/chip/calls.txt >$@
+
+chip: $(CHIP_LIBRARY) build/calls.h
+	@CC='$(CC)' CHIP='$(CHIP)' tests/chip/run.sh
+
+chip-measure: $(CHIP_LIBRARY) build/calls.h
+	@CHIP='$(CHIP)' tests/chip/run.sh measure
+
+wasm: target/wasm/rikkovan.wasm build/calls.h
+	@tests/wasm/run.sh
+
+deps:
+	@tools/chip-deps.sh
 
 plans:
 	tools/make-plans.sh

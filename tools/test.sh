@@ -72,6 +72,8 @@ sources=${SIFLI_SRC:-../shared/docs/src}
 
 has_cargo() { command -v cargo >/dev/null; }
 
+has_python() { command -v python3 >/dev/null; }
+
 can_compare() { [ -d "$sources/sifli-hal/src" ] && has_cargo; }
 
 # Runs a command beside the others, on what they leave of the processors, in a process group of its own.
@@ -111,12 +113,14 @@ await() { # FILE..
 test_library() {
     local parts=(lib test-programs test-c test-fuzz)
     has_cargo && parts+=(test-rust)
+    has_python && parts+=(chip wasm)
     can_compare && parts+=(compare-plans compare-heads)
     await log/lpset.stamp log/replay.stamp stamp/rikkovan
     low_make -j2 --output-sync "${parts[@]}"
 }
 
 say_skipped() {
+    has_python || say 'builds for the chip and for WebAssembly skipped: python3 is missing'
     has_cargo || say 'tests from Rust and comparison with the Rust skipped: cargo is missing'
     command -v python3 >/dev/null || say 'comparison of docs/CONTRACTS.md with the sources skipped: python3 is missing'
     [ -d "$sources/sifli-hal/src" ] ||
