@@ -1,19 +1,20 @@
 #!/usr/bin/env bash
 # chip.sh TARGET [MODULE FOLDER]: compiles target/module/rikkovan.ll, which is proved, with the kit's own compiler for a target that
 # the kit promises nothing of: for a Cortex-M33 (thumbv8m.main-none-eabi, or -eabihf) to target/chip/librikkovan.a, for
-# wasm32-unknown-unknown to target/wasm/rikkovan.wasm. CHIP_OPTIMIZE is the level, -O2 by default. docs/CHIP.md says what is trusted.
+# wasm32-unknown-unknown to target/wasm/rikkovan.wasm. CHIP_OPTIMIZE overrides how it is optimised. docs/CHIP.md says what is trusted.
 set -euo pipefail
 cd "$(dirname "$0")/.."
 
 target=$1
 module=${2:-target/module/rikkovan.ll}
 folder=${3:-}
-optimize=${CHIP_OPTIMIZE:--O2}
 kit=${RATTLE_HOME:-$(dirname "$(dirname "$(readlink -f "$(command -v rt)")")")}
 tools=$kit/on/$(uname -m)/toolchain/bin
 # What the kit gives its compiler, but for the flags of x86-64.
 flags=(--target="$target" -ffunction-sections -fdata-sections -mllvm -trap-unreachable -mllvm -no-trap-after-noreturn
-    --no-default-config -no-canonical-prefixes -fno-crash-diagnostics -Werror "$optimize" -x ir)
+    --no-default-config -no-canonical-prefixes -fno-crash-diagnostics -Werror -x ir)
+# Heads are passed by value, so each function that is compiled into its caller saves copies of one; -O2 would unroll the loops.
+one_function=(-O1 -mllvm -inline-threshold=4000)
 
 fail() {
     echo "chip: FAILED: $*"
@@ -35,10 +36,13 @@ for_target() { # TO
 
 cortex_m33() {
     local out=${folder:-target/chip}
+    flags+=(-mcpu=cortex-m33)
+    # shellcheck disable=SC2206
+    flags+=(${CHIP_OPTIMIZE:-${one_function[@]}})
     mkdir -p "$out"
     for_target "$out/rikkovan.ll"
-    "$tools/clang" "${flags[@]}" -mcpu=cortex-m33 -fstack-usage -c "$out/rikkovan.ll" -o "$out/rikkovan.o"
-    "$tools/clang" "${flags[@]}" -mcpu=cortex-m33 -S "$out/rikkovan.ll" -o "$out/rikkovan.s"
+    "$tools/clang" "${flags[@]}" -fstack-usage -c "$out/rikkovan.ll" -o "$out/rikkovan.o"
+    "$tools/clang" "${flags[@]}" -S "$out/rikkovan.ll" -o "$out/rikkovan.s"
     rm -f "$out/librikkovan.a"
     "$tools/llvm-ar" rcsD "$out/librikkovan.a" "$out/rikkovan.o"
 }
@@ -47,7 +51,7 @@ wasm() {
     local out=${folder:-target/wasm}
     mkdir -p "$out"
     for_target "$out/rikkovan.ll"
-    "$tools/clang" "${flags[@]}" -c "$out/rikkovan.ll" -o "$out/rikkovan.o"
+    "$tools/clang" "${flags[@]}" "${CHIP_OPTIMIZE:--O2}" -c "$out/rikkovan.ll" -o "$out/rikkovan.o"
     # The kit's compiler is its linker too, by this name.
     ln -sf "$tools/clang" "$out/wasm-ld"
     sed -n 's/^uint64_t \(rikkovan_[a-z0-9_]*\)(.*/--export=\1/p' include/rikkovan.h |
