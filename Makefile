@@ -55,7 +55,8 @@ help:
 	@echo 'make bench          measure every call beside the Rust'
 	@echo 'make contracts      write the tables of docs/CONTRACTS.md anew from the sources'
 	@echo 'make chip           build and test, not prove, the library for a Cortex-M33: $(CHIP_LIBRARY)'
-	@echo '                    (CHIP=thumbv8m.main-none-eabihf for hard float); chip-measure: stack and instructions there'
+	@echo '                    (CHIP=thumbv8m.main-none-eabihf for hard float); chip-measure: stack and instructions there;'
+	@echo '                    chip-rust: link the Rust crate with it'
 	@echo 'make wasm           build and test, not prove, it as WebAssembly: target/wasm/rikkovan.wasm'
 	@echo 'make deps           install with apt what optional parts of the test need'
 	@echo 'make spec           write target/spec.md: every definition that the exports and the claim stand on'
@@ -179,7 +180,7 @@ bench: oracle
 
 # The proved module for targets of which the kit promises nothing: tested builds, not proved ones (docs/CHIP.md).
 # The archive is always made again, since it may be there for another CHIP.
-.PHONY: chip chip-measure wasm deps $(CHIP_LIBRARY)
+.PHONY: chip chip-measure wasm deps chip-rust $(CHIP_LIBRARY)
 
 $(MODULE): $(LIBRARY) tools/chip-module.sh tools/chip-layout.py
 	tools/chip-module.sh
@@ -199,6 +200,12 @@ chip: $(CHIP_LIBRARY) build/calls.h
 
 chip-measure: $(CHIP_LIBRARY) build/calls.h
 	@CHIP='$(CHIP)' tests/chip/run.sh measure
+
+# The example for firmware, linked with the archive for the chip.
+chip-rust: $(CHIP_LIBRARY)
+	@if [ -d "$$(rustc --print target-libdir --target $(CHIP))" ]; then \
+		RIKKOVAN_LIB_DIR=target/chip $(CARGO) build $(WITH_CRATE) --example firmware --target $(CHIP); \
+		else echo 'chip-rust: skipped: the example for firmware (the target $(CHIP) is not installed)'; fi
 
 wasm: target/wasm/rikkovan.wasm build/calls.h
 	@tests/wasm/run.sh

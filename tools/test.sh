@@ -114,6 +114,7 @@ test_library() {
     local parts=(lib test-programs test-c test-fuzz)
     has_cargo && parts+=(test-rust)
     has_python && parts+=(chip wasm)
+    has_python && has_cargo && parts+=(chip-rust)
     can_compare && parts+=(compare-plans compare-heads)
     await log/lpset.stamp log/replay.stamp stamp/rikkovan
     low_make -j2 --output-sync "${parts[@]}"

@@ -1,5 +1,9 @@
 //! A guarded change as firmware makes it: the chip's registers become a head, a task is booked, and
 //! the change is played to head and chip. Nothing is allocated.
+//!
+//! For a target without an operating system it is built as firmware is, without the standard library.
+
+#![cfg_attr(target_os = "none", no_std, no_main)]
 
 use rikkovan::{play, Asked, Chip, Head, Hertz, Journal, Plan, ReadyFlag, Refusal, Register, Task};
 
@@ -14,6 +18,12 @@ fn head_of(board: &Board) -> Result<Head, Refusal> {
         head.set_ready(flag, true);
     }
     Ok(head)
+}
+
+/// Firmware has no place to print to.
+#[cfg(target_os = "none")]
+macro_rules! println {
+    ($($what:tt)*) => { let _ = format_args!($($what)*); };
 }
 
 /// Stands in for a chip: on HXT48 at 48 MHz, supply D, LPSYS at 48 MHz on supply S.
@@ -66,7 +76,7 @@ impl Chip for Board {
     }
 }
 
-fn main() -> Result<(), Box<dyn std::error::Error>> {
+fn run() -> Result<(), Refusal> {
     let mut board = Board::new();
     let mut head = head_of(&board)?;
     let (mut journal, mut answers) = (Journal::new(), [0; 100]);
@@ -82,7 +92,8 @@ fn main() -> Result<(), Box<dyn std::error::Error>> {
         &mut journal,
         &mut answers,
         |head, journal, answers| head.change(&Plan::DEFAULT, journal, answers),
-    )?;
+    )
+    .map_err(|refused| refused.refusal)?;
 
     // The chip has the registers of the head, and runs at 240 MHz.
     for &register in Register::ALL {
@@ -90,4 +101,23 @@ fn main() -> Result<(), Box<dyn std::error::Error>> {
     }
     assert_eq!(head.clocks().hclk, Some(Hertz::mhz(240)));
     Ok(())
+}
+
+#[cfg(not(target_os = "none"))]
+fn main() -> Result<(), Refusal> {
+    run()
+}
+
+/// Where the chip starts; nothing is to be done behind it.
+#[cfg(target_os = "none")]
+#[no_mangle]
+extern "C" fn _start() -> ! {
+    let _ = run();
+    loop {}
+}
+
+#[cfg(target_os = "none")]
+#[panic_handler]
+fn panic(_: &core::panic::PanicInfo<'_>) -> ! {
+    loop {}
 }
