@@ -16,7 +16,7 @@ arm=(arm-none-eabi-gcc -mcpu=cortex-m33 -mthumb -mfloat-abi=$float -nostartfiles
     -Wl,--gc-sections,--no-warn-execstack -T tests/chip/board.ld)
 strict=(-std=c99 -Wall -Wextra -Werror -O2 -Ibuild)
 
-# With the header of a folder, and the linker's flags and files that are named.
+# The replay, with the header of a folder, and the linker's flags and files that are named.
 program() { # TO HEADER-FOLDER WORDS..
     "${arm[@]}" "${strict[@]}" -I"$2" -o "$1" tests/chip/board.c tests/chip/replay.c "${@:3}"
 }
@@ -102,6 +102,11 @@ draws_as_on_x86_64() {
         awk '{ calls += $2 } END { exit calls < 100000 }' "$work/drawn"
 }
 
+runs_the_example() {
+    "${arm[@]}" "${strict[@]}" -Iinclude -o "$work/firmware" tests/chip/board.c tests/chip/firmware.c examples/firmware.c "$archive" &&
+        emulate "$work/firmware" | diff tests/c/firmware.expected -
+}
+
 measure() {
     local wraps
     wraps=$(header_calls | sed 's/^/-Wl,--wrap=/')
@@ -152,5 +157,6 @@ check 'a bit changed behind each call is found' finds_planted_faults
 check 'numbers changed in the module are found' finds_changed_constants
 check 'a header with lengths of 32 bits is found' finds_lengths_of_32_bits
 check 'a hundred thousand random calls leave what they leave on x86-64' draws_as_on_x86_64
+check 'the example for firmware on the board' runs_the_example
 
 all_passed
