@@ -203,7 +203,7 @@ chip-measure: $(CHIP_LIBRARY) build/calls.h
 
 # The example for firmware, linked with the archive for the chip.
 chip-rust: $(CHIP_LIBRARY)
-	@if [ -d "$$(rustc --print target-libdir --target $(CHIP))" ]; then \
+	@if [ -d "$$(MAKEFLAGS= rustc --print target-libdir --target $(CHIP))" ]; then \
 		RIKKOVAN_LIB_DIR=target/chip $(CARGO) build $(WITH_CRATE) --example firmware --target $(CHIP); \
 		else echo 'chip-rust: skipped: the example for firmware (the target $(CHIP) is not installed)'; fi
 

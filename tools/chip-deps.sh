@@ -32,6 +32,6 @@ elif apt update && apt install -y --no-install-recommends --download-only "${pac
     apt install -y --no-install-recommends "${packages[@]}"; then
     say "installed ${packages[*]} ($SECONDS s)"
 else
-    say "not installed: ${packages[*]} ($SECONDS s; $(grep -m 1 -E '^[EW]: ' "$log" || echo 'no answer in time'))"
+    say "not installed: ${packages[*]} ($SECONDS s; $(grep -m 1 -E '^[EW]: ' "$log" || tail -n 1 "$log"))"
     exit 1
 fi
