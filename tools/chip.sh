@@ -1,7 +1,7 @@
 #!/usr/bin/env bash
 # chip.sh TARGET [MODULE FOLDER]: compiles target/module/rikkovan.ll, which is proved, with the kit's own compiler for a target that
 # the kit promises nothing of: for a Cortex-M33 (thumbv8m.main-none-eabi, or -eabihf) to target/chip/librikkovan.a, for
-# wasm32-unknown-unknown to target/wasm/rikkovan.wasm. CHIP_OPTIMIZE overrides how it is optimised. docs/CHIP.md says what is trusted.
+# wasm32-unknown-unknown to target/wasm/rikkovan.wasm. CHIP_OPTIMIZE has other flags for the chip's. docs/CHIP.md says what is trusted.
 set -euo pipefail
 cd "$(dirname "$0")/.."
 
@@ -51,7 +51,7 @@ wasm() {
     local out=${folder:-target/wasm}
     mkdir -p "$out"
     for_target "$out/rikkovan.ll"
-    "$tools/clang" "${flags[@]}" "${CHIP_OPTIMIZE:--O2}" -c "$out/rikkovan.ll" -o "$out/rikkovan.o"
+    "$tools/clang" "${flags[@]}" -O2 -c "$out/rikkovan.ll" -o "$out/rikkovan.o"
     # The kit's compiler is its linker too, by this name.
     ln -sf "$tools/clang" "$out/wasm-ld"
     sed -n 's/^uint64_t \(rikkovan_[a-z0-9_]*\)(.*/--export=\1/p' include/rikkovan.h |
