@@ -1,10 +1,11 @@
 /*
  * rikkovan.h: the clock control of an SF32LB52x detector head, for C and C++.
  *
- * Link with librikkovan.a (pkg-config name: rikkovan), which is for Linux on x86-64. The library
- * needs nothing but the C library, keeps no state between calls, allocates nothing and does no
- * input or output. Calls may run at the same time in several threads, as long as nothing else
- * writes what is lent to a call, or reads what the call writes, before it returns.
+ * Link with librikkovan.a (pkg-config name: rikkovan), which is for Linux on x86-64; `make chip`
+ * builds one for a Cortex-M33, tested and not proved. The library needs nothing but the C library,
+ * keeps no state between calls, allocates nothing and does no input or output. Calls may run at the
+ * same time in several threads, as long as nothing else writes what is lent to a call, or reads
+ * what the call writes, before it returns.
  *
  * A lent buffer is a pointer and a number of elements. The pointer must not be NULL, not even where
  * the number is 0, and that many elements must be readable there. An array of a fixed size is lent
@@ -1307,8 +1308,8 @@ uint64_t rikkovan_change(uint8_t *RIKKOVAN_RESTRICT head, uint64_t head_len, con
  * =========
  *
  * The bytes of stack that a call needs at most, from its return address down, as the library is
- * compiled for x86-64: the deepest way through its machine code, rounded up to 256. No call
- * recurses. What memcpy of the C library needs comes on top, and where a program is linked so that
+ * compiled for x86-64: the deepest way through its machine code, rounded up to 256. The build for a
+ * Cortex-M33 needs less for every call. No call recurses. What memcpy of the C library needs comes on top, and where a program is linked so that
  * it looks memcpy up at the first call, what the dynamic linker needs then.
  */
 #define RIKKOVAN_STACK_PLAN_CHECK 256

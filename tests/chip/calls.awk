@@ -50,7 +50,7 @@ NR == FNR {
 {
     call = "rikkovan_" $2
     if (!(call in declared)) fail(call " is not in the header")
-    print "CALL(" $1 ", " call ", " row(call) ")"
+    if ($1 != "-") print "CALL(" $1 ", " call ", " row(call) ")"
     delete declared[call]
 }
 END {

@@ -1,4 +1,4 @@
-/* Runs examples/firmware.c on the board, in the place of the replay: what it prints goes to the host. */
+/* Runs a program on the board, in the place of the replay: what it prints goes to the host. */
 #include <stdio.h>
 #include <string.h>
 #include "platform.h"

@@ -102,9 +102,14 @@ draws_as_on_x86_64() {
         awk '{ calls += $2 } END { exit calls < 100000 }' "$work/drawn"
 }
 
+# A program in C on the board.
+firmware() { # SOURCES..
+    "${arm[@]}" "${strict[@]}" -Iinclude -Iexamples -o "$work/firmware" tests/chip/board.c tests/chip/firmware.c "$@" "$archive" &&
+        emulate "$work/firmware"
+}
+
 runs_the_example() {
-    "${arm[@]}" "${strict[@]}" -Iinclude -o "$work/firmware" tests/chip/board.c tests/chip/firmware.c examples/firmware.c "$archive" &&
-        emulate "$work/firmware" | diff tests/c/firmware.expected -
+    firmware examples/firmware.c examples/play.c | diff tests/c/firmware.expected -
 }
 
 measure() {
@@ -158,5 +163,8 @@ check 'numbers changed in the module are found' finds_changed_constants
 check 'a header with lengths of 32 bits is found' finds_lengths_of_32_bits
 check 'a hundred thousand random calls leave what they leave on x86-64' draws_as_on_x86_64
 check 'the example for firmware on the board' runs_the_example
+check 'the player on the board, with chips that are ready, late and never ready, and cut off anywhere' firmware tests/c/play.c examples/play.c
+check 'readings on the board, with that of fit' firmware tests/c/readings.c
+check 'moments on the board' firmware tests/c/moment.c
 
 all_passed
