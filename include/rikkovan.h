@@ -1309,8 +1309,9 @@ uint64_t rikkovan_change(uint8_t *RIKKOVAN_RESTRICT head, uint64_t head_len, con
  *
  * The bytes of stack that a call needs at most, from its return address down, as the library is
  * compiled for x86-64: the deepest way through its machine code, rounded up to 256. The build for a
- * Cortex-M33 needs less for every call. No call recurses. What memcpy of the C library needs comes on top, and where a program is linked so that
- * it looks memcpy up at the first call, what the dynamic linker needs then.
+ * Cortex-M33 needs less for every call. No call recurses. What memcpy of the C library needs comes
+ * on top, and where a program is linked so that it looks memcpy up at the first call, what the
+ * dynamic linker needs then.
  */
 #define RIKKOVAN_STACK_PLAN_CHECK 256
 #define RIKKOVAN_STACK_READ_CLOCKS 1280
