@@ -37,7 +37,8 @@ PLANS = $(sort $(wildcard examples/plans/*.plan))
 TASKS = $(sort $(wildcard examples/tasks/*.tasks))
 
 .DELETE_ON_ERROR:
-.PHONY: help lib run test measure contracts spec test-c test-rust test-programs test-prove test-fuzz fuzz test-oracle oracle compare compare-quick compare-plans compare-heads evidence record bench plans tasks heads install uninstall clean
+.PHONY: help lib run test measure contracts spec test-c test-rust test-programs test-prove test-fuzz fuzz test-oracle \
+	oracle compare compare-quick compare-plans compare-heads evidence record bench plans tasks heads install uninstall clean
 
 help:
 	@echo 'make run            prove the library, then check the example plans and tasks through it'
