@@ -5,7 +5,7 @@ use crate::groups::{Report, counts, print_tables};
 use crate::tally::Tally;
 use crate::{
     compare_booking, compare_change, compare_config, compare_fit, compare_head, compare_lists,
-    compare_load, compare_lpsys, compare_moment, compare_plan,
+    compare_load, compare_lpsys, compare_moment, compare_plan, progress,
 };
 use sifli::random::Random;
 
@@ -47,18 +47,27 @@ impl Extent {
         });
         Random::new(mixed)
     }
+
+    /// A name for comparisons of the same size.
+    fn name(&self, only: &[&str]) -> String {
+        let kind = if self.quick { "quick" } else { "full" };
+        let count = self.count.map_or(String::new(), |count| count.to_string());
+        format!("compare-{kind}-{count}-{}-{}", self.seconds, only.join("-"))
+    }
 }
 
 /// Compares the groups of the named parts, of all where none is named, and gives
 /// the number of differences.
 pub fn run(extent: Extent, only: &[&str]) -> u64 {
     println!("seed {}", extent.seed);
+    progress::begin(&extent.name(only));
     let mut reports = Vec::new();
     for part in PARTS {
         if only.is_empty() || only.contains(&part) {
             reports.extend(part_of(part, extent));
         }
     }
+    progress::end();
     print_tables(&reports);
     let mut total = Tally::new(String::new());
     for report in &reports {
