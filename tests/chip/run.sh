@@ -21,10 +21,11 @@ program() { # TO HEADER-FOLDER WORDS..
     "${arm[@]}" "${strict[@]}" -I"$2" -o "$1" tests/chip/board.c tests/chip/replay.c "${@:3}"
 }
 
+# A run takes seconds, but in the gate it has only what the prover leaves of the processors.
 emulate() { # PROGRAM WORD..
     local words=enable=on,target=native word
     for word in "${@:2}"; do words+=,arg=$word; done
-    timeout 120 qemu-system-arm -M mps2-an505 -display none -monitor none -serial none "${qemu[@]}" \
+    timeout 1800 qemu-system-arm -M mps2-an505 -display none -monitor none -serial none "${qemu[@]}" \
         -semihosting-config "$words" -kernel "$1"
 }
 qemu=()
