@@ -2,13 +2,14 @@
 use Prim.Native.Nat.{ℕ, _≤_}
 use mathlib.Core.Path.{_≡_, refl, sym, subst}
 use mathlib.Core.Bool.{Bool, true, false, cond, not}
-use mathlib.Core.List.{List, [], _∷_}
+use mathlib.Core.List.{List}
 use native.Mathlib.Omega.{arith}
 use lib.Dec.{eqb, leb}
 use borrow.Author.Tests.{leb-true}
 use lib.ListN.{length, getD, take, drop}
 use Rattle.record.specs.Bytes.{twoBytes, isWithin}
 use Rattle.record.specs.Refusals.{refuse, firstOf}
+use Rattle.record.proofs.Refusals.{Each, first-each, refuse-each}
 use Rattle.plan.specs.declared.Plan.{Plan}
 use Rattle.plan.specs.declared.bytes.Decoded.the-variants.{Read, Unread}
 use Rattle.plan.specs.codes.{coded}
@@ -28,32 +29,24 @@ use Rattle.head.specs.Record.{lengthFits, headRefusal}
 
 -- a test's refusal is its number or none
 of : (k n : ℕ) → leb n k ≡ true → (t : Bool) → refuse n t ≤ k
-of k n p true = leb-true n k p
-of k n p false = omega arith
+of k n p = refuse-each (λ (m : ℕ). m ≤ k) (omega arith) n (leb-true n k p)
 
 -- the first of a list is at most what each is
-abbrev Each : ℕ → List ℕ → Type 0
-Each k [] = Unit {0}
-Each k (n ∷ ns) = (n ≤ k) × Each k ns
+abbrev All : ℕ → List ℕ → Type 0
+All k = Each (λ (n : ℕ). n ≤ k)
 
-each : (k : ℕ) (ns : List ℕ) → Each k ns → firstOf ns ≤ k
-unfolding firstOf
-each k [] x = omega arith
-each k (n ∷ ns) x = by (eqb n 0) (each k ns (x .1)) (x .0)
-  where
-    by : (t : Bool) → firstOf ns ≤ k → n ≤ k → cond t (firstOf ns) n ≤ k
-    by true rest first = rest
-    by false rest first = first
+first : (k : ℕ) (ns : List ℕ) → All k ns → firstOf ns ≤ k
+first k = first-each (λ (n : ℕ). n ≤ k) (omega arith)
 
 -- a plan's 1 to 14
 bytes : (pb : List ℕ) → recordRefusal pb ≤ 14
 unfolding recordRefusal
-bytes pb = each 14 (recordTests pb) (
+bytes pb = first 14 (recordTests pb) (
   of 14 1 refl (not (eqb (length pb) 20)),
   (of 14 1 refl (not (eqb (twoBytes (getD pb 0 0) (getD pb 1 0)) 18)), (of 14 2 refl (not (eqb (getD pb 2 0) 1)), (of 14 3 refl (not (coded pb)), tt))),
 )
 
-clocks : (p : Plan) → Each 14 (frequencyTests p)
+clocks : (p : Plan) → All 14 (frequencyTests p)
 clocks p = (
   of 14 9 refl (usbNot60 (p .usb) (usbHz p)),
   (
@@ -67,7 +60,7 @@ clocks p = (
 
 plan : (p : Plan) → planRefusal p ≤ 14
 unfolding planRefusal
-plan p = each 14 (planTests p) (
+plan p = first 14 (planTests p) (
   of 14 3 refl (not (legal p)),
   (
     of 14 4 refl (coreOnAbsentDll1 p),
@@ -86,7 +79,7 @@ verdict-most pb = by (eqb (recordRefusal pb) 0)
 -- a head's 1 to 3
 pub head-most : (b : List ℕ) → headRefusal b ≤ 3
 unfolding headRefusal
-head-most b = each 3 _ (
+head-most b = first 3 _ (
   of 3 1 refl (not (lengthFits b)),
   (
     of 3 2 refl (not (eqb (getD b versionAt 0) 1)),

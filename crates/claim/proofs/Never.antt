@@ -8,6 +8,7 @@ use lib.Dec.{eqb, ltb}
 use lib.ListN.{length}
 use borrow.Author.Tests.{ltb-true}
 use Rattle.record.specs.Refusals.{refuse, firstOf}
+use Rattle.record.proofs.Refusals.{Each, first-each, refuse-each}
 use Rattle.record.proofs.Bytes.{and-left}
 use Rattle.clock.specs.declared.MaybeDll.{MaybeDll}
 use Rattle.clock.specs.declared.MaybeDll.the-variants.{Absent, Present}
@@ -50,22 +51,11 @@ never n e = record {
 }
 
 other : (n : ℕ) → another n ≡ true → (t : Bool) → Never (refuse n t)
-other n e true = never n e
-other n e false = never 0 refl
+other n e = refuse-each Never (never 0 refl) n (never n e)
 
 -- so it is with the first refusal of a list, where it is with each
-abbrev Each : List ℕ → Type 0
-Each [] = Unit {0}
-Each (n ∷ ns) = Never n × Each ns
-
-each : (ns : List ℕ) → Each ns → Never (firstOf ns)
-unfolding firstOf
-each [] x = never 0 refl
-each (n ∷ ns) x = by (eqb n 0) (each ns (x .1)) (x .0)
-  where
-    by : (t : Bool) → Never (firstOf ns) → Never n → Never (cond t (firstOf ns) n)
-    by true rest first = rest
-    by false rest first = first
+each : (ns : List ℕ) → Each Never ns → Never (firstOf ns)
+each = first-each Never (never 0 refl)
 
 -- a plan's 1 to 14
 verdicts : (pb : List ℕ) → Never (numberOf (verdict pb))
@@ -83,7 +73,7 @@ module _ (b : List ℕ) (fit : FitHead b) where
   never-changing pb j a =
       let p = planOf pb in
       let is-fit : Never (refuse 37 (not (fits h))) = rw (fit .fit) (never 0 refl) in
-      let own : Each (guardTests p h) = (is-fit, (other 38 refl (unready p h), (other 39 refl (overloaded (hclkHz p) h), tt))) in
+      let own : Each Never (guardTests p h) = (is-fit, (other 38 refl (unready p h), (other 39 refl (overloaded (hclkHz p) h), tt))) in
       each (answersTests b j a ++ changeTests pb b) (other 17 refl (ltb (length j) 128), (other 18 refl (ltb 4096 (length a)), (head, (verdicts pb, own))))
 
   pub never-requesting : (f : ℕ) (j : List ℕ) → Never (firstOf (journalTests b j ++ requestTests f))
@@ -96,7 +86,7 @@ module _ (b : List ℕ) (fit : FitHead b) where
   never-booking hz reads t =
       let load = loadOf (booked h ++ (t ∷ [])) in
       let clock : Never (carried (hclkOf h) load) = rw reads (other 39 refl (ltb hz load)) in
-      let own : Each (bookTests t h) = (other 16 refl (not (taskOk t)), (other 40 refl (hasId (t .id) (booked h)), (other 41 refl (eqb (h .count) 16), (clock, tt)))) in
+      let own : Each Never (bookTests t h) = (other 16 refl (not (taskOk t)), (other 40 refl (hasId (t .id) (booked h)), (other 41 refl (eqb (h .count) 16), (clock, tt)))) in
       each (headTests b ++ bookTests t h) (head, own)
 
 -- how a guarded change ends

@@ -2,13 +2,14 @@
 use Prim.Native.Nat.{ℕ, _≤_}
 use mathlib.Core.Path.{_≡_, refl, ap, sym, _∙_}
 use mathlib.Core.Bool.{Bool, true, false, cond, not}
-use mathlib.Core.List.{List, [], _∷_, _++_, append-nil}
+use mathlib.Core.List.{List, [], _++_, append-nil}
 use native.Mathlib.Omega.{arith}
 use lib.Dec.{eqb, ltb}
 use lib.ListN.{length, drop, length-append}
 use lib.Seq.{take-at}
 use borrow.Author.Tests.{eqb-false, le-ltb}
 use Rattle.record.specs.Refusals.{refuse, firstOf}
+use Rattle.record.proofs.Refusals.{Each, first-each, refuse-each}
 use Rattle.plan.specs.bytes.{planOf}
 use Rattle.head.specs.Record.{headRefusal, headOf, written}
 use Rattle.journal.specs.Run.{Run, Effect, begin}
@@ -25,7 +26,8 @@ use Rattle.fit.specs.Fit.{fits}
 use Rattle.plan_clocks.specs.Clocks.{hclkHz}
 use Rattle.verdict.specs.Verdict.{verdict, numberOf}
 use Rattle.claim.proofs.Most.{head-most, verdict-most}
-use Rattle.play.specs.Play.{entriesOf, GoesOn}
+use Rattle.claim.specs.Claim.{entriesOf}
+use Rattle.play.specs.Play.{GoesOn}
 use Rattle.play.proofs.Plays.{Onward, same, out, Plays}
 use Rattle.play.proofs.Parts.{plays-change, plays-to-plan, plays-calibrate, plays-init, plays-wake, plays-hxt48}
 
@@ -64,22 +66,14 @@ module _ {F : List ℕ → Effect} (plays : Plays F) (a x b j : List ℕ) (v v' 
       by false = unaltered (refused n b j) (refused n b j) refl refl refl refl other x
 
 -- a list of refusals without 36
-abbrev Others : List ℕ → Type 0
-Others [] = Unit {0}
-Others (n ∷ ns) = (n ≡ 36 → ⊥) × Others ns
+abbrev Other : ℕ → Type 0
+Other n = n ≡ 36 → ⊥
 
-other : (n : ℕ) → eqb n 36 ≡ false → (t : Bool) → refuse n t ≡ 36 → ⊥
-other n e true q = eqb-false n 36 e q
-other n e false q = omega (arith, q)
+none : Other 0
+none q = omega (arith, q)
 
-others : (ns : List ℕ) → Others ns → firstOf ns ≡ 36 → ⊥
-unfolding firstOf
-others [] o q = omega (arith, q)
-others (n ∷ ns) o q = by (eqb n 0) (others ns (o .1)) (o .0) q
-  where
-    by : (t : Bool) → (firstOf ns ≡ 36 → ⊥) → (n ≡ 36 → ⊥) → cond t (firstOf ns) n ≡ 36 → ⊥
-    by true rest first q = rest q
-    by false rest first q = first q
+other : (n : ℕ) → eqb n 36 ≡ false → (t : Bool) → Other (refuse n t)
+other n e = refuse-each Other none n (eqb-false n 36 e)
 
 -- the tests do not tell the two apart, where the answers are at most 4096
 module _ (a x : List ℕ) (most : length (a ++ x) ≤ 4096) (b j : List ℕ) where
@@ -87,12 +81,12 @@ module _ (a x : List ℕ) (most : length (a ++ x) ≤ 4096) (b j : List ℕ) whe
   same-tests tests = rw (le-ltb 4096 (length (a ++ x)) most, le-ltb 4096 (length a) (omega (arith, simp length-append at most)))
 
   -- nor is 36 among them
-  shared : (tests : List ℕ) → Others tests → firstOf (answersTests b j a ++ tests) ≡ 36 → ⊥
+  shared : (tests : List ℕ) → Each Other tests → firstOf (answersTests b j a ++ tests) ≡ 36 → ⊥
   shared tests o =
       let head : headRefusal b ≡ 36 → ⊥ = λ q. omega (arith, q, head-most b) in
-      others (answersTests b j a ++ tests) (other 17 refl (ltb (length j) 128), (other 18 refl (ltb 4096 (length a)), (head, o)))
+      first-each Other none (answersTests b j a ++ tests) (other 17 refl (ltb (length j) 128), (other 18 refl (ltb 4096 (length a)), (head, o)))
 
-  answered : {F : List ℕ → Effect} → Plays F → (tests : List ℕ) → Others tests → (v v' : ℕ) →
+  answered : {F : List ℕ → Effect} → Plays F → (tests : List ℕ) → Each Other tests → (v v' : ℕ) →
       GoesOn x (performed (firstOf (answersTests b j a ++ tests)) (F a) v b j) (performed (firstOf (answersTests b j (a ++ x) ++ tests)) (F (a ++ x)) v' b j)
   answered {F} plays tests o v v' = rw (same-tests tests) (performed-on plays a x b j v v' (firstOf (answersTests b j a ++ tests)) (shared tests o))
 
@@ -104,7 +98,7 @@ module _ (a x : List ℕ) (most : length (a ++ x) ≤ 4096) (b j : List ℕ) whe
   unfolding changeCall
   change-goes-on pb = answered (plays-change (planOf pb)) (changeTests pb b) (own pb) 0 0
     where
-      own : (pb : List ℕ) → Others (changeTests pb b)
+      own : (pb : List ℕ) → Each Other (changeTests pb b)
       own pb =
           let p = planOf pb in
           let h = headOf b in

@@ -31,11 +31,11 @@ use Rattle.guard_change.specs.Change.{change}
 use Rattle.call.specs.Call.{Result, answersTests, finished, performed}
 use Rattle.guard.specs.Guard.{changeTests, changeRefusal, changeCall}
 use Rattle.claim.specs.Moment.{oneReady, stopFor}
-use Rattle.claim.specs.Claim.{changing, FitHead}
+use Rattle.claim.specs.Claim.{changing, entriesOf, FitHead}
 use Rattle.claim.proofs.changes.Progress.{stopOf}
 use Rattle.claim.proofs.changes.Core.{polled}
 use Rattle.claim.proofs.Demand.{one}
-use Rattle.play.specs.Play.{entriesOf, AroundWait}
+use Rattle.play.specs.Play.{AroundWait}
 use Rattle.play.proofs.Plays.{Mute, mute-delay, mute-then, mute-takes, placed}
 use Rattle.play.proofs.Parts.{raises, leaves, to-hxt48, sets, behind}
 use Rattle.play.proofs.Calls.{entries-are}

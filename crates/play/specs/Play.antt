@@ -2,14 +2,10 @@
 use Prim.Native.Nat.{ℕ, _+_, _*_}
 use mathlib.Core.Path.{_≡_}
 use mathlib.Core.List.{List, [], _∷_, _++_}
-use lib.ListN.{take}
 use Rattle.journal.specs.Run.{entry, readyAfter, poll}
 use Rattle.call.specs.Call.{Result}
 use Rattle.guard.specs.Guard.{changeRefusal, changeCall}
-
--- the entries that a call writes
-abbrev pub entriesOf : Result → List ℕ
-entriesOf o = take (o .entries) (o .journal)
+use Rattle.claim.specs.Claim.{entriesOf}
 
 -- answers that end any wait, and any measurement with its two counts
 abbrev pub endsAnyWait : List ℕ

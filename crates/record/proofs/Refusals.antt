@@ -71,3 +71,21 @@ first-refuses ms ns e = first-append ms ns ∙ rw (ne-eqb (firstOf ms) 0 e)
 
 pub first-passes : (ms ns : List ℕ) → firstOf ms ≡ 0 → firstOf (ms ++ ns) ≡ firstOf ns
 first-passes ms ns e = first-append ms ns ∙ rw (eq-eqb (firstOf ms) 0 e)
+
+-- what holds of no refusal and of each of a list holds of the first
+abbrev pub Each : (ℕ → Type 0) → List ℕ → Type 0
+Each P [] = Unit {0}
+Each P (n ∷ ns) = P n × Each P ns
+
+pub first-each : (P : ℕ → Type 0) → P 0 → (ns : List ℕ) → Each P ns → P (firstOf ns)
+unfolding firstOf
+first-each P z [] x = z
+first-each P z (n ∷ ns) x = by (eqb n 0) (first-each P z ns (x .1)) (x .0)
+  where
+    by : (t : Bool) → P (firstOf ns) → P n → P (cond t (firstOf ns) n)
+    by true rest first = rest
+    by false rest first = first
+
+pub refuse-each : (P : ℕ → Type 0) → P 0 → (n : ℕ) → P n → (t : Bool) → P (refuse n t)
+refuse-each P z n p true = p
+refuse-each P z n p false = z
