@@ -18,7 +18,7 @@ verdict tests Verdict planned
 ## The head
 layout Layout
 register Numbers Word Codes bytes
-task Task bytes
+task Task look_up bytes
 head Head Record Encodable from_bytes/Decodes tasks
 ## The journal: what a call does
 journal Run Machine

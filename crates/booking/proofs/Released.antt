@@ -5,9 +5,6 @@ use mathlib.Core.Bool.{true, false}
 use mathlib.Core.List.{List}
 use lib.ListN.{length}
 use Rattle.record.specs.Bytes.{Bytes}
-use Rattle.record.specs.Refusals.{firstOf}
-use Rattle.record.proofs.Refusals.{none-refused, not-refused-unless}
-use Rattle.task.specs.declared.Task.{Task}
 use Rattle.task.specs.Task.{hasId, distinct}
 use Rattle.head.specs.declared.Head.{Head}
 use Rattle.head.specs.Head.{booked}
@@ -18,11 +15,8 @@ use Rattle.head.proofs.from_bytes.Decoding.{decode-encodable}
 use Rattle.head.specs.tasks.{without, withoutTask}
 use Rattle.head.proofs.tasks.Holding.{booked-holding}
 use Rattle.head.proofs.tasks.Kept.{gone, less-encodable}
-use Rattle.call.proofs.Changed.{head-passed, own-passed, left-head, refusal-first, refused-buffer}
+use Rattle.call.proofs.Changed.{head-passed, left-head, refusal-first, refused-buffer}
 use Rattle.booking.specs.Release.{releaseTests, release}
-
-pub passed-42 : (id : ℕ) (h : Head) → firstOf (releaseTests id h) ≡ 0 → hasId id (booked h) ≡ true
-passed-42 id h e = let none = none-refused (releaseTests id h) e in not-refused-unless 41 (hasId id (booked h)) search
 
 -- a refused release leaves the bytes as they were
 pub release-refused : (id : ℕ) (b : List ℕ) → (release id b .refusal ≡ 0 → ⊥) → release id b .buffer ≡ b
@@ -31,10 +25,6 @@ release-refused id b z = refused-buffer (releaseTests id (headOf b)) (withoutTas
 
 -- a release answered done
 module _ (id : ℕ) (b : List ℕ) (bytes : Bytes b) (done : release id b .refusal ≡ 0) where
-  has : hasId id (booked (headOf b)) ≡ true
-  unfolding release
-  has = passed-42 id (headOf b) (own-passed (releaseTests id (headOf b)) (withoutTask id) b done)
-
   read : headRefusal b ≡ 0
   unfolding release
   read = head-passed (releaseTests id (headOf b)) (withoutTask id) b done
@@ -44,7 +34,7 @@ module _ (id : ℕ) (b : List ℕ) (bytes : Bytes b) (done : release id b .refus
 
   left : (headRefusal (release id b .buffer) ≡ 0) × (headOf (release id b .buffer) ≡ withoutTask id (headOf b))
   unfolding release
-  left = left-head (releaseTests id (headOf b)) (withoutTask id) b done (passed b read .length) (less-encodable id (headOf b) before has)
+  left = left-head (releaseTests id (headOf b)) (withoutTask id) b done (passed b read .length) (less-encodable id (headOf b) before)
 
   -- leaves a record
   pub release-record : headRefusal (release id b .buffer) ≡ 0
@@ -64,4 +54,4 @@ module _ (id : ℕ) (b : List ℕ) (bytes : Bytes b) (done : release id b .refus
 
   -- ids stay distinct
   pub release-distinct : distinct (booked (headOf (release id b .buffer))) ≡ true
-  release-distinct = ap (λ (h : Head). distinct (booked h)) release-head ∙ less-encodable id (headOf b) before has .apart
+  release-distinct = ap (λ (h : Head). distinct (booked h)) release-head ∙ less-encodable id (headOf b) before .apart

@@ -7,6 +7,7 @@ ghost use Rattle.booking.specs.Booking.{book};
 ghost use Rattle.booking.specs.Release.{release};
 use call::Answer;
 use task::Task;
+use task::look_up::LookUp;
 
 // Books a task of an id, cycles and a period in microseconds.
 pub fn book(buffer: &mut [u8], id: u8, cycles: u32, period: u32) -> Answer
@@ -36,9 +37,9 @@ pub fn release(buffer: &mut [u8], id: u8) -> Answer
     }
     let head = admitted.head;
     let tasks = head.tasks;
-    if !task::rules::has_id(tasks, head.count, id) {
+    let LookUp::Hit(read) = task::look_up::look_up(tasks, head.count, id) else {
         return Answer::refused(42);
-    }
-    let m = call::start(head::tasks::without_task(head, id));
+    };
+    let m = call::start(head::tasks::without_place(head, read as usize - 1));
     call::finish(m, 0, buffer)
 }

@@ -41,7 +41,6 @@ use Rattle.booking.specs.tests.{bookTests}
 use Rattle.booking.specs.Booking.{book}
 use Rattle.booking.proofs.Laws.{passed-39, passed-encodable}
 use Rattle.booking.specs.Release.{releaseTests, release}
-use Rattle.booking.proofs.Released.{passed-42}
 use Rattle.lpsys_request.specs.Request.{request}
 use Rattle.lpsys_tests.proofs.Laws.{request-range}
 use Rattle.lpsys_request.specs.frequency.{requestTests, lpsysRequest}
@@ -257,8 +256,7 @@ module _ (b : List ℕ) (fit : FitHead b) (ts : List Task) (holds : booked (head
     where
       by : Dec (headCall (releaseTests id h) (withoutTask id) b .refusal ≡ 0) → Fine b (releasing id) (headCall (releaseTests id h) (withoutTask id) b) ts
       by (yes e) =
-          let has = passed-42 id h (own-passed (releaseTests id h) (withoutTask id) b e) in
-          held (releasing id) (releaseTests id h) (withoutTask id) e (less-encodable id h ok has) (without id (booked h)) refl (rw (e, holds)) tt
+          held (releasing id) (releaseTests id h) (withoutTask id) e (less-encodable id h ok) (without id (booked h)) refl (rw (e, holds)) tt
       by (no z) =
           let same = refused-buffer (releaseTests id h) (withoutTask id) b (λ q. z (refusal-first (releaseTests id h) (withoutTask id) b ∙ q)) in
           unchanged b fit (releasing id) ts holds (headCall (releaseTests id h) (withoutTask id) b) (silent (releaseTests id h) (withoutTask id)) same (rw (ne-eqb _ 0 z)) tt

@@ -26,10 +26,9 @@ without id (t ∷ ts) = cond (eqb (t .id) id) ts (t ∷ without id ts)
 abbrev pub withoutTask : ℕ → Head → Head
 withoutTask id h = holding (without id (booked h)) h
 
--- the place of the first task with the id, the number of tasks where none has it
-unfoldable pub placeOf : ℕ → List Task → ℕ
-placeOf id [] = 0
-placeOf id (t ∷ ts) = cond (eqb (t .id) id) 0 (suc (placeOf id ts))
+-- the tasks without the one at a place, the later ones moved up
+abbrev pub withoutPlace : ℕ → Head → Head
+withoutPlace at h = holding (take at (booked h) ++ drop (suc at) (booked h)) h
 
 -- places with the one at `at` taken out, the later ones moved up and the last one empty
 abbrev pub movedUp : ℕ → List Task → List Task

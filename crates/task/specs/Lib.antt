@@ -1,2 +1,3 @@
 pub mod Task
 pub mod bytes
+pub mod look_up

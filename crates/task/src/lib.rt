@@ -1,6 +1,7 @@
-// A task, its rules, its bytes in a record, and the tests of a list of them in bytes.
+// A task, its rules, its bytes in a record, the tests of a list of them in bytes, and the look-up of an id.
 pub mod bytes;
 pub mod list;
+pub mod look_up;
 pub mod rules;
 
 pub struct Task {

@@ -5,6 +5,7 @@ ghost use lib.ListN.{take};
 ghost use Rattle.layout.specs.Layout.{mostTasks};
 ghost use Rattle.task.specs.Task.{taskOk, hasId};
 use crate::Task;
+use crate::look_up::LookUp;
 
 // A task that a booking would not refuse by 16.
 pub fn ok(task: Task) -> bool
@@ -27,14 +28,8 @@ pub fn has_id(tasks: [Task; layout::MOST_TASKS], count: u8, id: u8) -> bool
     requires { ⌜ count ≤ mostTasks ⌝ }
     ensures { λ r. ⌜ r ≡ hasId id (take count tasks) ⌝ }
 {
-    let end = count as usize;
-    let mut i = 0;
-    while i < end {
-        let task = tasks[i];
-        if task.id == id {
-            return true;
-        }
-        i += 1;
+    match crate::look_up::look_up(tasks, count, id) {
+        LookUp::Hit(_) => true,
+        LookUp::Miss(_) => false,
     }
-    false
 }

@@ -1,5 +1,5 @@
 -- Heads that hold other tasks: what they hold, and that they still have a record.
-use Prim.Native.Nat.{ℕ, zero, suc, _+_, _-_, _≤_, _<_}
+use Prim.Native.Nat.{ℕ, suc, _+_, _-_, _≤_, _<_}
 use mathlib.Core.Path.{_≡_, refl, ap, sym, _∙_}
 use mathlib.Core.Bool.{true}
 use mathlib.Core.List.{List, [], _∷_, _++_, append-assoc}
@@ -10,15 +10,14 @@ use lib.Seq.{length-take-le, take-append-le, drop-append-le, drop-at}
 use Rattle.record.proofs.Items.{fill}
 use Rattle.layout.specs.Layout.{mostTasks}
 use Rattle.task.specs.declared.Task.{Task}
-use Rattle.task.specs.Task.{noTask, allOk, hasId, distinct, InBytes}
+use Rattle.task.specs.Task.{noTask, allOk, distinct, InBytes}
 use Rattle.task.specs.bytes.{placed}
 use Rattle.task.proofs.bytes.Places.{placed-first}
 use Rattle.head.specs.declared.Head.{Head}
 use Rattle.head.specs.Head.{booked}
 use Rattle.head.specs.Encodable.{Encodable}
-use Rattle.head.specs.tasks.{holding, withTask, withoutTask, placeOf, movedUp}
+use Rattle.head.specs.tasks.{holding, withTask, withoutPlace, movedUp}
 use Rattle.head.proofs.Fields.{with-tasks-encodable}
-use Rattle.head.proofs.tasks.Places.{Placed, place-of}
 
 -- the tasks booked are as many as counted, and the other places are empty
 module _ (h : Head) (ok : Encodable h) where
@@ -59,21 +58,15 @@ module _ (h : Head) (ok : Encodable h) where
     pub more-count : h .count + 1 ≡ withTask t h .count
     more-count = sym (length-append (booked h) (t ∷ []) ∙ ap (λ (n : ℕ). n + 1) (booked-length h ok))
 
-  module _ (id : ℕ) (has : hasId id (booked h) ≡ true) where
-    p : Placed id (booked h)
-    p = place-of id (booked h) has
+  module _ (at : ℕ) (l : at < h .count) where
+    within : at < length (booked h)
+    within = rw booked-length l
 
-    pub less-within : placeOf id (booked h) < h .count
-    less-within = omega (arith, p .within, booked-length h ok)
+    pub less-places : movedUp at (h .tasks) ≡ withoutPlace at h .tasks
+    less-places = ap (movedUp at) (tasks-placed h ok) ∙ placed-less (booked h) at within (omega (arith, booked-length h ok, ok .room))
 
-    pub less-places : movedUp (placeOf id (booked h)) (h .tasks) ≡ withoutTask id h .tasks
-    less-places =
-        ap (movedUp (placeOf id (booked h))) (tasks-placed h ok)
-        ∙ (placed-less (booked h) (placeOf id (booked h)) (p .within) (omega (arith, booked-length h ok, ok .room))
-        ∙ ap (λ (ts : List Task). placed ts (length ts)) (sym (p .apart)))
-
-    pub less-count : h .count - 1 ≡ withoutTask id h .count
-    less-count = sym (ap length (p .apart) ∙ (less-length (booked h) (placeOf id (booked h)) (p .within) ∙ ap (λ (n : ℕ). n - 1) (booked-length h ok)))
+    pub less-count : h .count - 1 ≡ withoutPlace at h .count
+    less-count = sym (less-length (booked h) at within ∙ ap (λ (n : ℕ). n - 1) (booked-length h ok))
 
 -- a head that holds tasks: it has booked just these, and it has a record
 module _ (ts : List Task) (h : Head) where

@@ -1,7 +1,7 @@
 -- What holds of tasks still holds with one more at the end, and with one less; so the head still has a record.
-use Prim.Native.Nat.{ℕ, zero, suc, _+_, _≤_, _<_}
-use mathlib.Core.Path.{_≡_, refl, ap, sym, _∙_}
-use mathlib.Core.Bool.{Bool, true, false, false≢true, not, _&&_, _||_}
+use Prim.Native.Nat.{ℕ, zero, suc, _≤_, _<_}
+use mathlib.Core.Path.{_≡_, refl, sym}
+use mathlib.Core.Bool.{Bool, true, false, false≢true, not, _&&_}
 use mathlib.Core.List.{List, [], _∷_, _++_}
 use native.Mathlib.Omega.{arith}
 use borrow.Author.Tests.{eqb-true, eqb-false, ne-eqb}
@@ -16,7 +16,7 @@ use Rattle.head.specs.declared.Head.{Head}
 use Rattle.head.specs.Head.{booked}
 use Rattle.head.specs.Encodable.{Encodable}
 use Rattle.head.specs.tasks.{without, withTask, withoutTask}
-use Rattle.head.proofs.tasks.Holding.{booked-length, holding-encodable, less-count}
+use Rattle.head.proofs.tasks.Holding.{booked-length, holding-encodable}
 
 not-first : (a b : Bool) → (not a && b) ≡ true → a ≡ false
 not-first true b e = absurd (false≢true e)
@@ -106,6 +106,16 @@ module _ (id : ℕ) where
   each-less [] each = each
   each-less (t ∷ ts) each = each-first t ts (eqb (t .id) id) refl (each 0 (omega arith)) (later t ts each) (each-less ts (later t ts each))
 
+  few-first : (t : Task) (ts : List Task) (b : Bool) → eqb (t .id) id ≡ b → length (without id ts) ≤ length ts → length (without id (t ∷ ts)) ≤ length (t ∷ ts)
+  unfolding without
+  few-first t ts true e p = rw e (omega arith)
+  few-first t ts false e p = rw e (omega (arith, p))
+
+  few-less : (ts : List Task) → length (without id ts) ≤ length ts
+  unfolding without
+  few-less [] = omega arith
+  few-less (t ∷ ts) = few-first t ts (eqb (t .id) id) refl (few-less ts)
+
   -- the id is gone, where no two are alike
   gone-first : (t : Task) (ts : List Task) (b : Bool) → eqb (t .id) id ≡ b → hasId (t .id) ts ≡ false → hasId id (without id ts) ≡ false → hasId id (without id (t ∷ ts)) ≡ false
   unfolding without hasId
@@ -130,7 +140,7 @@ more-encodable t h ok room fine new bytes =
     holding-encodable (booked h ++ (t ∷ [])) h ok (rw (length-append (booked h) (t ∷ []), booked-length h ok) (omega (arith, room))) (all-more t (booked h) (ok .each) fine)
     (distinct-more t (booked h) (ok .apart) new) (each-more t (booked h) (booked-each h ok) bytes)
 
-pub less-encodable : (id : ℕ) (h : Head) → Encodable h → hasId id (booked h) ≡ true → Encodable (withoutTask id h)
-less-encodable id h ok has =
-    holding-encodable (without id (booked h)) h ok (omega (arith, less-count h ok id has, ok .room)) (all-less id (booked h) (ok .each)) (distinct-less id (booked h) (ok .apart))
+pub less-encodable : (id : ℕ) (h : Head) → Encodable h → Encodable (withoutTask id h)
+less-encodable id h ok =
+    holding-encodable (without id (booked h)) h ok (omega (arith, few-less id (booked h), booked-length h ok, ok .room)) (all-less id (booked h) (ok .each)) (distinct-less id (booked h) (ok .apart))
     (each-less id (booked h) (booked-each h ok))

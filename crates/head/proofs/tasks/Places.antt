@@ -1,43 +1,25 @@
--- The place of a task with an id, and the tasks without it.
-use Prim.Native.Nat.{ℕ, suc, _+_, _-_, _≤_, _<_}
-use mathlib.Core.Path.{_≡_, refl, ap, sym, _∙_}
-use mathlib.Core.Bool.{Bool, true, false, false≢true}
+-- The tasks without the one of an id are those before and those after its place, which a look-up finds.
+use Prim.Native.Nat.{ℕ, zero, suc, _-_, _<_}
+use mathlib.Core.Path.{_≡_, ap}
 use mathlib.Core.List.{List, [], _∷_, _++_}
 use native.Mathlib.Omega.{arith}
-use lib.Dec.{eqb}
-use lib.ListN.{length, getD, take, drop}
+use borrow.Author.Tests.{eq-eqb, ne-eqb}
+use lib.ListN.{length, take, drop}
 use Rattle.task.specs.declared.Task.{Task}
-use Rattle.task.specs.Task.{noTask, hasId}
-use Rattle.task.proofs.Tests.{rest-step, rest-none}
-use Rattle.head.specs.tasks.{without, placeOf}
+use Rattle.task.proofs.look_up.Laws.{At, HitAfter}
+use Rattle.head.specs.declared.Head.{Head}
+use Rattle.head.specs.Head.{booked}
+use Rattle.head.specs.tasks.{without, withoutTask, withoutPlace}
 
--- the loop of `place_of`: the first of the rest has the id, or not; nothing is left
-module _ (ts : List Task) (n i id : ℕ) (h : n ≤ length ts) where
-  pub place-found : i < n → eqb (getD ts i noTask .id) id ≡ true → placeOf id (drop i (take n ts)) ≡ 0
-  unfolding placeOf
-  place-found l e = rw (rest-step ts n i h l, e)
+apart : (id : ℕ) (ts : List Task) (at : ℕ) → at < length ts → At id ts at → ((k : ℕ) → k < at → At id ts k → ⊥) → without id ts ≡ take at ts ++ drop (suc at) ts
+unfolding without
+apart id [] at l has first = absurd (omega (arith, l))
+apart id (t ∷ ts) zero l has first = rw (eq-eqb (t .id) id has)
+apart id (t ∷ ts) (suc at) l has first =
+    rw (ne-eqb (t .id) id (first 0 (omega arith))) (ap (λ (l : List Task). t ∷ l) (apart id ts at (omega (arith, l)) has (λ k h. first (suc k) (omega (arith, h)))))
 
-  pub place-next : i < n → eqb (getD ts i noTask .id) id ≡ false → placeOf id (drop i (take n ts)) ≡ suc (placeOf id (drop (suc i) (take n ts)))
-  unfolding placeOf
-  place-next l e = rw (rest-step ts n i h l, e)
-
-  pub place-none : n ≤ i → placeOf id (drop i (take n ts)) ≡ 0
-  unfolding placeOf
-  place-none l = rw (rest-none ts n i h l)
-
--- the task with the id has a place, and the tasks without it are those before and those after that place
-pub record Placed (id : ℕ) (ts : List Task) : Type 0 where
-  pub within : placeOf id ts < length ts
-  pub apart : without id ts ≡ take (placeOf id ts) ts ++ drop (suc (placeOf id ts)) ts
-
-place-of-first : (id : ℕ) (t : Task) (ts : List Task) (b : Bool) → eqb (t .id) id ≡ b → (hasId id ts ≡ true → Placed id ts) → hasId id (t ∷ ts) ≡ true → Placed id (t ∷ ts)
-unfolding placeOf without hasId
-place-of-first id t ts true e later h = record { within = rw e (omega arith); apart = rw e }
-place-of-first id t ts false e later h =
-    let p = later (rw e at h) in
-    record { within = rw e (omega (arith, p .within)); apart = rw e (ap (λ (l : List Task). t ∷ l) (p .apart)) }
-
-pub place-of : (id : ℕ) (ts : List Task) → hasId id ts ≡ true → Placed id ts
-unfolding hasId
-place-of id [] h = absurd (false≢true h)
-place-of id (t ∷ ts) h = place-of-first id t ts (eqb (t .id) id) refl (place-of id ts) h
+-- the last task that was read on a hit is the one to take out
+pub without-hit : (id : ℕ) (h : Head) (read : ℕ) → HitAfter id (booked h) read → withoutPlace (read - 1) h ≡ withoutTask id h
+without-hit id h read hit =
+    let place : read - 1 ≡ hit .place = omega (arith, hit .count) in
+    rw (place, apart id (booked h) (hit .place) (hit .within) (hit .has) (hit .first))
