@@ -568,7 +568,8 @@ static inline void rikkovan_put_register(uint8_t *head, uint32_t reg, uint32_t v
  *   bit 63         1 where the call is refused
  *
  * The value is 0 where nothing else is said of the call. Readings, bookings, releases and
- * rikkovan_moment write no entry and take no answer, so their word is 0 where they are done.
+ * rikkovan_moment write no entry and take no answer, so their word is 0 where they are done; that
+ * of a look-up is its value.
  *
  * A head is refused, by the first of these tests that fails, with
  *
@@ -1234,6 +1235,32 @@ uint64_t rikkovan_book(uint8_t *head, uint64_t head_len, uint8_t id, uint32_t cy
 uint64_t rikkovan_release(uint8_t *head, uint64_t head_len, uint8_t id);
 
 /*
+ * Looks up the task with an id on a head.
+ *
+ *   head      the buffer with the record; it is only read
+ *   head_len  the number of bytes at head
+ *   id        any; no task has 0
+ *
+ * Tasks are read from the first one on: up to the one with the id, a hit, and with it, or all of
+ * them where none has it. The value is the number of tasks read * 2, plus 1 for a hit.
+ *
+ * Refusals: the head's.
+ */
+uint64_t rikkovan_look_up(const uint8_t *head, uint64_t head_len, uint8_t id);
+
+/* Whether a look-up is a hit: 0 or 1, 0 where it is refused. */
+static inline int rikkovan_hit(rikkovan_answer answer)
+{
+    return (int)(rikkovan_value(answer) & 1);
+}
+
+/* The number of tasks that a look-up read; the place of a hit is one less. */
+static inline uint32_t rikkovan_tasks_read(rikkovan_answer answer)
+{
+    return rikkovan_value(answer) >> 1;
+}
+
+/*
  * The guarded change
  * ==================
  *
@@ -1334,6 +1361,7 @@ uint64_t rikkovan_change(uint8_t *RIKKOVAN_RESTRICT head, uint64_t head_len, con
 #define RIKKOVAN_STACK_LOAD_CHECK 512
 #define RIKKOVAN_STACK_BOOK 2048
 #define RIKKOVAN_STACK_RELEASE 2048
+#define RIKKOVAN_STACK_LOOK_UP 1792
 #define RIKKOVAN_STACK_CHANGE 5120
 
 /*
@@ -1358,6 +1386,7 @@ uint64_t rikkovan_change(uint8_t *RIKKOVAN_RESTRICT head, uint64_t head_len, con
 #define rikkovan_reconfigure_sysclk(...) rikkovan_answer_of(rikkovan_reconfigure_sysclk(__VA_ARGS__))
 #define rikkovan_book(...) rikkovan_answer_of(rikkovan_book(__VA_ARGS__))
 #define rikkovan_release(...) rikkovan_answer_of(rikkovan_release(__VA_ARGS__))
+#define rikkovan_look_up(...) rikkovan_answer_of(rikkovan_look_up(__VA_ARGS__))
 #define rikkovan_change(...) rikkovan_answer_of(rikkovan_change(__VA_ARGS__))
 
 #ifdef __cplusplus

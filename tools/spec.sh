@@ -53,7 +53,7 @@ guard_change Change
 guard tests Guard
 ## Tasks
 load Load check
-booking tests Booking Release
+booking tests Booking Release LookUp
 fit_reading Reading
 ## Demand 3
 lpsys_request Safe

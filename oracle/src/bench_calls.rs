@@ -7,16 +7,22 @@ use crate::config_plans::HXT48;
 use crate::heads::{Buffer, buffer, busy, plain, put_flags, put_register};
 use crate::ours;
 use crate::task_inputs::{Order, light_list, with_light_tasks};
+use rikkovan::bytes;
 use sifli::calls::lpsys;
-use sifli::change::change;
-use sifli::head::{Head, LONGEST_PERIOD, MOST_TASKS, TASK, Task};
+use sifli::change::{change, fit};
+use sifli::head::{BUFFER, Head, LONGEST_PERIOD, MOST_TASKS, TASK, Task};
 use sifli::lent::Lent;
+use sifli::moment::moment;
 use sifli::pac::lpsys_rcc::vals::Sysclk;
 use sifli::pac::lpsys_rcc::vals::mux::Perisel;
 use sifli::plan::{DEFAULT, Plan};
 use sifli::query::{Call, Clocks, Id, JOURNAL, Query, call};
 use sifli::{call, rcc, tasks, world};
 use std::hint::black_box;
+
+/// The core at 48 MHz from HXT48, and at 240 MHz from DLL1.
+const SLOW: Core = (1, 1, [0; 3]);
+const FAST: Core = (3, 1, [1, 0, 9]);
 
 /// The original on a head in place, with the arguments and the plan of a query.
 type Original = fn(&Query, &Plan);
@@ -28,7 +34,10 @@ pub fn rows() -> impl Iterator<Item = Row> {
     let rows = lpsys().iter().map(lpsys_row).chain(config_rows());
     rows.chain(load_checks())
         .chain(task_rows())
+        .chain(look_ups())
+        .chain(fit_readings())
         .chain(changes())
+        .chain([moment_row()])
 }
 
 /// The exported call; its bytes are copied before it, as on the other sides.
@@ -97,7 +106,11 @@ fn planned(query: &Query) -> Plan {
 }
 
 /// A call that only the model has.
-fn of_model(name: &'static str, query: Query, model: Model) -> Row {
+fn of_model(
+    name: &'static str,
+    query: Query,
+    model: impl Fn(&Query, &Head) -> Result<Head, u64> + Copy + 'static,
+) -> Row {
     let query = kept(query);
     let head = decoded_head(query.bytes);
     let mut bytes: Buffer = query.bytes.try_into().expect("a head's buffer");
@@ -112,6 +125,24 @@ fn of_model(name: &'static str, query: Query, model: Model) -> Row {
             black_box(&mut bytes);
         }),
         lent: bytes_lent(&query),
+    }
+}
+
+/// A reading that only the model has, of a head that stays as it is; ours gives what is
+/// written.
+fn of_reading<F, T>(
+    name: &'static str,
+    bytes: Buffer,
+    ours: impl Fn(&Buffer) -> F + 'static,
+    model: impl Fn(&Head) -> T + Copy + 'static,
+) -> Row {
+    let head = decoded_head(&bytes);
+    Row {
+        name,
+        ours: side(move || ours(black_box(&bytes))),
+        in_place: Some(side(move || model(black_box(&head)))),
+        on_bytes: side(move || model(&decoded_head(black_box(&bytes)))),
+        lent: BUFFER + size_of::<F>(),
     }
 }
 
@@ -242,11 +273,43 @@ fn task_rows() -> [Row; 4] {
     ]
 }
 
+/// The last id, which is found after all tasks, and one that is not there.
+fn look_ups() -> [Row; 3] {
+    let row = |name, count, id: u8| {
+        let bytes = buffer(&with_light_tasks(busy(), count), 0);
+        let ours = move |head: &Buffer| {
+            let _ = black_box(bytes::look_up(head, black_box(id)));
+        };
+        let model = move |head: &Head| tasks::look_up(head, black_box(id));
+        of_reading(name, bytes, ours, model)
+    };
+    [
+        row("look_up, the last of 2 tasks", 2, 2),
+        row("look_up, the last of 16 tasks", MOST_TASKS, 16),
+        row("look_up, none of 16 tasks", MOST_TASKS, 200),
+    ]
+}
+
+/// Of heads that are fit, at 240 MHz.
+fn fit_readings() -> [Row; 2] {
+    let row = |name, count| {
+        let bytes = buffer(&with_light_tasks(with_core(FAST), count), 0);
+        let ours = |head: &Buffer| {
+            let mut numbers = [0; 3];
+            let _ = black_box(bytes::read_fit(head, &mut numbers));
+            numbers
+        };
+        of_reading(name, bytes, ours, fit)
+    };
+    [
+        row("read_fit, no tasks", 0),
+        row("read_fit, 16 tasks", MOST_TASKS),
+    ]
+}
+
 /// Between 48 MHz on D and 240 MHz on S, and to the clock that is there, on heads
 /// with two tasks.
 fn changes() -> [Row; 3] {
-    const SLOW: Core = (1, 1, [0; 3]);
-    const FAST: Core = (3, 1, [1, 0, 9]);
     let row = |name, from, to| {
         let bytes = buffer(&with_light_tasks(with_core(from), 2), 0);
         let query = Query {
@@ -263,4 +326,26 @@ fn changes() -> [Row; 3] {
         row("change, 240 MHz on S to 48 on D", FAST, SLOW),
         row("change, 240 MHz to the same", FAST, FAST),
     ]
+}
+
+/// All entries of a guarded change, put into the head that it had. The query holds
+/// entries as bytes, so the exported call is made without it.
+fn moment_row() -> Row {
+    let head = with_light_tasks(with_core(SLOW), 2);
+    let changed = change(&head, &change_inputs::plan(FAST), &[1]);
+    let entries: &[u32] = changed.expect("a change that is done").entries.leak();
+    let bytes = buffer(&head, 0);
+    let query = Query::on(call(Id::Moment), &bytes);
+    let row = of_model("moment, all entries of a change", query, |_, head| {
+        moment(head, black_box(entries))
+    });
+    let mut lent = bytes;
+    Row {
+        ours: side(move || {
+            lent.copy_from_slice(black_box(&bytes));
+            bytes::moment(&mut lent, black_box(entries))
+        }),
+        lent: row.lent + size_of_val(entries),
+        ..row
+    }
 }

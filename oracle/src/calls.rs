@@ -52,6 +52,7 @@ const ON_PLAN: Call = Call {
     is_lent_journal: false,
     is_lent_answers: false,
     refusals: &[0, 1, 2, 3, 4, 5, 6, 7, 8, 9, 10, 11, 12, 13, 14],
+    values: &[],
     wanted: |query, _| match plan::check(query.plan) {
         0 => 0,
         refusal => REFUSED | refusal,
@@ -104,17 +105,17 @@ pub fn config() -> &'static [Call] {
     &CALLS[13..16]
 }
 
-/// Load check, booking and release.
+/// Load check, booking, release and look-up.
 pub fn of_tasks() -> &'static [Call] {
-    &CALLS[16..19]
+    &CALLS[16..20]
 }
 
 /// The guarded change alone.
 pub fn guarded() -> &'static [Call] {
-    &CALLS[19..20]
+    &CALLS[20..21]
 }
 
-pub static CALLS: [Call; 22] = [
+pub static CALLS: [Call; 23] = [
     ON_PLAN,
     Call {
         id: Id::ReadClocks,
@@ -261,6 +262,7 @@ pub static CALLS: [Call; 22] = [
         refusals: &[
             0, 1, 2, 3, 4, 5, 6, 7, 8, 9, 10, 11, 12, 13, 14, 17, 18, 32, 34, 35, 36,
         ],
+        values: &[0, 31, 33],
         wanted: |query, lent| {
             lent.clocks.fill(0);
             try_run(query, lent, |head| {
@@ -316,6 +318,19 @@ pub static CALLS: [Call; 22] = [
         wanted: |query, lent| {
             let head = head::decode(query.bytes);
             lent.put_head(head.and_then(|head| tasks::release(&head, query.task().id)))
+        },
+        ..ON_BYTES
+    },
+    Call {
+        id: Id::LookUp,
+        name: "look_up",
+        function: "look_up",
+        arguments: &[BYTE],
+        refusals: &[0, 1, 2, 3],
+        values: &tasks::LOOK_UPS,
+        wanted: |query, _| match head::decode(query.bytes) {
+            Err(refusal) => REFUSED | refusal,
+            Ok(head) => tasks::look_up(&head, query.task().id).value(),
         },
         ..ON_BYTES
     },
@@ -394,7 +409,7 @@ impl Query<'_> {
         self.arguments.map(|argument| argument as u8)
     }
 
-    /// The task of a booking, and the id of a release.
+    /// The task of a booking, and the id of a release or a look-up.
     pub fn task(&self) -> Task {
         let [id, cycles, period_us] = self.arguments;
         Task {

@@ -1,5 +1,5 @@
 //! `oracle compare`: librikkovan.a against the original code, and its tasks, guarded
-//! change, reading of fit and moments against document 01.
+//! change, reading of fit and moments against documents 01 and 02.
 
 use crate::groups::{Report, counts, print_tables};
 use crate::tally::Tally;
@@ -93,6 +93,7 @@ fn part_of(part: &str, extent: Extent) -> Vec<Report> {
             compare_load::run(extent),
             compare_booking::book(extent),
             compare_booking::release(extent),
+            compare_booking::look_up(extent),
         ],
         _ => vec![compare_change::run(extent), compare_lists::run(extent)],
     }

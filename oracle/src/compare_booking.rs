@@ -1,4 +1,4 @@
-//! Groups of booking and release.
+//! Groups of booking, release and look-up.
 
 use crate::compare::Extent;
 use crate::compare_booking_refused;
@@ -7,6 +7,7 @@ use crate::heads::{
     Buffer, DIVIDERS, buffer, busy, damaged_or_any, dlls, plain, put_flags, put_register, task,
     with, with_tasks,
 };
+use crate::ours::ours;
 use crate::plans::STAGES;
 use crate::tally::Tally;
 use crate::task_inputs::{
@@ -14,7 +15,8 @@ use crate::task_inputs::{
     random_id, random_task, with_light_tasks,
 };
 use sifli::head::{Head, LONGEST_PERIOD, MOST_TASKS, TASK, Task, at, decode};
-use sifli::query::{Id, call};
+use sifli::lent::Left;
+use sifli::query::{Id, Query, call};
 use sifli::random::Random;
 
 const RANDOM: Number = Number::new(1_500_000, 300_000);
@@ -69,7 +71,7 @@ pub fn book(extent: Extent) -> Report {
 pub fn release(extent: Extent) -> Report {
     let mut groups = Groups::ruled("release", extent);
     groups.group("ids", |tally| every_id(tally, |id| [Order::Release(id)]));
-    groups.group("places", places);
+    groups.group("places", |tally| places(tally, Order::Release));
     let few = [1, 2, 16, 0].map(Order::Release);
     compare_booking_refused::run(&mut groups, &few, extent.quick);
     let draw = |random: &mut Random, head: &Head| Order::Release(random_id(random, head));
@@ -77,8 +79,44 @@ pub fn release(extent: Extent) -> Report {
     groups.finish(call(Id::Release).refusals)
 }
 
+pub fn look_up(extent: Extent) -> Report {
+    let mut groups = Groups::requested("look_up", extent);
+    groups.group("ids", |tally| every_id(tally, |id| [Order::LookUp(id)]));
+    groups.group("places", |tally| places(tally, Order::LookUp));
+    let few = [1, 2, 16, 0].map(Order::LookUp);
+    compare_booking_refused::run(&mut groups, &few, extent.quick);
+    let draw = |random: &mut Random, head: &Head| Order::LookUp(random_id(random, head));
+    random_groups(&mut groups, draw);
+    let call = call(Id::LookUp);
+    groups.finish(call.refusals).with_values(call.values)
+}
+
 pub fn compare(tally: &mut Tally, order: Order, bytes: &[u8]) {
-    tally.compare(&order.on(bytes));
+    let query = order.on(bytes);
+    let (_, is_alike) = tally.compare(&query);
+    if is_alike && query.call.id == Id::LookUp {
+        tally.hold(&query, is_found_alike, "release or booking finds otherwise");
+    }
+}
+
+/// Whether a look-up hits just where a release of the id is not 42 and a booking of it
+/// is 40, or all three refuse the head alike: of the library, and of what is wanted.
+fn is_found_alike(query: &Query) -> bool {
+    let id = query.task().id;
+    let sides: [fn(&Query) -> Left; 2] = [ours, |query| query.wanted()];
+    sides.into_iter().all(|side| {
+        let refusal = |order: Order| side(&order.on(query.bytes)).refusal();
+        let released = refusal(Order::Release(id));
+        let booked = refusal(Order::Book(Task { id, ..LIGHT }));
+        let looked_up = side(query);
+        match looked_up.refusal() {
+            0 => {
+                let is_hit = looked_up.value() % 2 == 1;
+                is_hit == (released != 42) && is_hit == (booked == 40)
+            }
+            refusal => [released, booked] == [refusal; 2],
+        }
+    })
 }
 
 /// The random groups of one sort of order.
@@ -230,7 +268,7 @@ fn every_id<const N: usize>(tally: &mut Tally, orders: impl Fn(u8) -> [Order; N]
 }
 
 /// Every place of every count, with any bytes in all tasks and past them.
-fn places(tally: &mut Tally) {
+fn places(tally: &mut Tally, order: fn(u8) -> Order) {
     let mut random = Random::new(0x97AC);
     for _ in 0..20 {
         for count in 0..=MOST_TASKS {
@@ -242,7 +280,7 @@ fn places(tally: &mut Tally) {
                 buffer[at + 6..at + TASK].fill_with(|| 1 + random.up_to(127));
             }
             for id in 0..=MOST_TASKS as u8 + 1 {
-                compare(tally, Order::Release(id), &buffer);
+                compare(tally, order(id), &buffer);
             }
         }
     }

@@ -1,5 +1,5 @@
-//! Groups of booking and release: buffers that are refused, and their neighbours that
-//! are not.
+//! Groups of booking, release and look-up: buffers that are refused, and their
+//! neighbours that are not.
 
 use crate::compare_booking::compare;
 use crate::groups::Groups;

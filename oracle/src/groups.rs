@@ -2,7 +2,7 @@
 
 use crate::compare::Extent;
 use crate::progress;
-use crate::tally::{ANSWERS, Tally};
+use crate::tally::Tally;
 use sifli::random::Random;
 use std::time::{Duration, Instant};
 
@@ -19,7 +19,7 @@ pub struct Report {
     rule: &'static str,
     pub systematic: Tally,
     pub random: Tally,
-    /// Answers that the call can give and that never came.
+    /// Answers that the call can give, and values, that never came.
     pub missing: Vec<usize>,
 }
 
@@ -45,6 +45,11 @@ impl Groups {
     /// A call that is held to document 01.
     pub fn ruled(call: &'static str, extent: Extent) -> Self {
         Self::new(call, "document 01", extent)
+    }
+
+    /// A call that is held to document 02.
+    pub fn requested(call: &'static str, extent: Extent) -> Self {
+        Self::new(call, "document 02", extent)
     }
 
     fn new(call: &'static str, rule: &'static str, extent: Extent) -> Self {
@@ -110,6 +115,19 @@ impl Groups {
     }
 }
 
+impl Report {
+    /// The same with a look at whether each of some values came.
+    pub fn with_values(mut self, values: &[usize]) -> Self {
+        for &value in values {
+            if self.systematic.values[value] + self.random.values[value] == 0 {
+                println!("  differs: {} never had the value {value}", self.call);
+                self.missing.push(value);
+            }
+        }
+        self
+    }
+}
+
 /// Prints a table of the systematic groups, and one of the random ones.
 pub fn print_tables(reports: &[Report]) {
     print_table("Systematic groups", reports, |report| &report.systematic);
@@ -142,11 +160,11 @@ fn print_table(title: &str, reports: &[Report], pick: impl Fn(&Report) -> &Tally
     }
     let (compared, different) = (grouped(sum.compared), grouped(sum.different));
     println!("| all | | {compared} | {different} | | |");
-    if sum.values.iter().any(|&count| count > 0) {
-        println!(
-            "\nA done `init` had as its value: {}.",
-            counted(&sum.values)
-        );
+    for report in reports {
+        let values = counted(&pick(report).values);
+        if !values.is_empty() {
+            println!("\nA done `{}` had as its value: {values}.", report.call);
+        }
     }
     if sum.moments > 0 {
         println!(
@@ -163,9 +181,9 @@ pub fn counts(tally: &Tally) -> String {
 }
 
 /// How often each number was counted that was.
-fn counted(counts: &[u64; ANSWERS]) -> String {
+fn counted(counts: &[u64]) -> String {
     let counted = |number: usize| format!("{number}: {}", grouped(counts[number]));
-    let came = (0..ANSWERS).filter(|&number| counts[number] > 0);
+    let came = (0..counts.len()).filter(|&number| counts[number] > 0);
     came.map(counted).collect::<Vec<_>>().join("; ")
 }
 

@@ -1,5 +1,5 @@
 //! Compares librikkovan.a with the original clock code, and its tasks, guarded change,
-//! reading of fit and moments with document 01; records the answers, and measures both.
+//! reading of fit and moments with documents 01 and 02; records the answers, and measures both.
 
 mod bench;
 mod bench_calls;
@@ -53,8 +53,8 @@ usage: oracle compare [--quick] [--count N] [--seconds N] [--seed N|random]
        oracle bench
 
 compare  every call of librikkovan.a against the original code, or against
-         document 01 where that has not the call; exit status 1 on a difference, an
-         answer that never came, or a broken clause of demand 3.
+         documents 01 and 02 where that has not the call; exit status 1 on a
+         difference, an answer that never came, or a broken clause of demand 3.
          --quick: a bounded part. --count N: N queries of each random group.
          --seconds N: each random group goes on for N seconds at least. --seed: what
          the random groups are drawn from. --only PART: plan, heads, lpsys, config,

@@ -76,12 +76,17 @@ pub fn side(call: &Call) -> Side {
         Id::Calibrate => with_answers!(calibrate_hrc48),
         Id::Init => with_clocks!(init),
         Id::Reconfigure => with_clocks!(reconfigure_sysclk),
-        Id::LoadCheck => |_, lent| load_check(lent.bytes),
+        Id::LoadCheck => |_, lent| seen(lent.bytes, bytes::load_check),
         Id::Book => |query, lent| {
             let task = query.task();
             bytes::book(lent.bytes, task.id, task.cycles, task.period_us).bits()
         },
         Id::Release => |query, lent| bytes::release(lent.bytes, query.task().id).bits(),
+        Id::LookUp => |query, lent| {
+            seen(lent.bytes, |head| {
+                bytes::look_up(head, query.task().id).bits()
+            })
+        },
         Id::Change => {
             |query, lent| bytes::change(lent.bytes, query.plan, lent.journal, query.answers).bits()
         }
@@ -95,9 +100,9 @@ pub fn side(call: &Call) -> Side {
     }
 }
 
-/// The bytes are lent so that a store into them would be seen.
-fn load_check(tasks: &mut [u8]) -> u64 {
-    let answer = bytes::load_check(tasks);
-    black_box(tasks);
+/// A call that only reads its bytes, lent so that a store into them would be seen.
+fn seen(bytes: &mut [u8], call: impl FnOnce(&[u8]) -> u64) -> u64 {
+    let answer = call(bytes);
+    black_box(bytes);
     answer
 }

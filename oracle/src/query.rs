@@ -33,6 +33,7 @@ pub enum Id {
     LoadCheck,
     Book,
     Release,
+    LookUp,
     Change,
     ReadFit,
     Moment,
@@ -55,6 +56,8 @@ pub struct Call {
     pub is_lent_answers: bool,
     /// 0 and the refusals that it has.
     pub refusals: &'static [usize],
+    /// The values of a done call that has few.
+    pub values: &'static [usize],
     /// What it answers and leaves: by the original code where that has the call,
     /// else by document 01.
     pub wanted: Side,

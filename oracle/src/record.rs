@@ -1,5 +1,5 @@
 //! `oracle record`: calls with the original's answers, and of tasks and guarded changes
-//! with document 01's, for a program that replays them. A file for each call, the same
+//! with those of documents 01 and 02, for a program that replays them. A file for each call, the same
 //! each time.
 
 use crate::tally::ANSWERS;
@@ -25,7 +25,7 @@ pub struct CallLines {
     text: String,
     answers: [usize; ANSWERS],
     /// The values that came with 0.
-    values: BTreeSet<u64>,
+    values: BTreeSet<usize>,
 }
 
 impl CallLines {
@@ -47,7 +47,7 @@ impl CallLines {
         let left = query.wanted();
         self.answers[left.refusal() as usize] += 1;
         if left.refusal() == 0 {
-            self.values.insert(left.value());
+            self.values.insert(left.value() as usize);
         }
         let answer = answer_text(self.call, &left);
         self.text.push_str(&format!("{given} {answer}\n"));
@@ -73,19 +73,15 @@ impl CallLines {
     }
 
     /// Writes the file and prints how often each answer is there, which is at least
-    /// `fewest`. Every value of a done `init` is there too.
+    /// `fewest`. Every value of a call that has few is there too.
     fn write(&self, directory: &Path, fewest: usize) -> io::Result<()> {
         let name = self.call.name;
         let lacks = |what: String| Err(io::Error::other(format!("{name}: too few answer {what}")));
         if let Some(answer) = recorded(self.call).find(|&answer| self.answers[answer] < fewest) {
             return lacks(answer.to_string());
         }
-        let values: &[u64] = if self.call.id == Id::Init {
-            &[0, 31, 33]
-        } else {
-            &[]
-        };
-        if let Some(value) = values.iter().find(|&value| !self.values.contains(value)) {
+        let values = self.call.values;
+        if let Some(value) = values.iter().find(|value| !self.values.contains(value)) {
             return lacks(format!("0 with {value}"));
         }
         fs::write(directory.join(format!("{name}.txt")), &self.text)?;

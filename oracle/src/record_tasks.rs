@@ -1,4 +1,5 @@
-//! Load checks, bookings and releases to record, with the answers of document 01.
+//! Load checks, bookings, releases and look-ups to record, with the answers of documents
+//! 01 and 02.
 
 use crate::heads::{Buffer, buffer, busy, damaged, garbage, plain, put_length, task, with};
 use crate::record::{CallLines, write_calls};
@@ -23,7 +24,8 @@ pub fn write(directory: &Path) -> io::Result<()> {
     write_calls(directory, of_tasks(), 1, |list| match list.call.id {
         Id::LoadCheck => load_checks(list),
         Id::Book => bookings(list),
-        _ => releases(list),
+        Id::Release => releases(list),
+        _ => look_ups(list),
     })
 }
 
@@ -46,11 +48,24 @@ fn bookings(list: &mut CallLines) {
 }
 
 fn releases(list: &mut CallLines) {
-    released(list);
-    releases_refused(list);
+    booked_ids(list, Order::Release);
+    unknown_ids(list, Order::Release, &UNKNOWN);
     refused_heads(list, Order::Release(1));
     random_heads(list, 0x4E1F, |random, head| {
         Order::Release(random_id(random, head))
+    });
+}
+
+fn look_ups(list: &mut CallLines) {
+    booked_ids(list, Order::LookUp);
+    unknown_ids(list, Order::LookUp, &UNKNOWN);
+    let next: Vec<_> = (0..=MOST_TASKS)
+        .map(|count| (count, count as u8 + 1))
+        .collect();
+    unknown_ids(list, Order::LookUp, &next);
+    refused_heads(list, Order::LookUp(1));
+    random_heads(list, 0x100C, |random, head| {
+        Order::LookUp(random_id(random, head))
     });
 }
 
@@ -288,38 +303,41 @@ fn refused_heads(list: &mut CallLines, order: Order) {
 
 /// Every place of one, two, three and sixteen tasks, and the first and the last
 /// of the other counts, with several bytes past the record.
-fn released(list: &mut CallLines) {
+fn booked_ids(list: &mut CallLines, order: fn(u8) -> Order) {
     for count in 1..=MOST_TASKS as u8 {
         let rest = if count % 2 == 0 { 0 } else { 0xEE };
         let buffer = buffer(&with_light_tasks(busy(), count.into()), rest);
         for id in 1..=count {
             if matches!(count, 1..=3 | 16) || id == 1 || id == count {
-                ordered(list, Order::Release(id), &buffer);
+                ordered(list, order(id), &buffer);
             }
         }
     }
     let mut unreadable = with_light_tasks(plain(), 2);
     unreadable.registers[1] = 2;
     unreadable.tasks[0] = of(255, u32::MAX, 1);
-    ordered(list, Order::Release(255), &buffer(&unreadable, 0));
+    ordered(list, order(255), &buffer(&unreadable, 0));
 }
 
-/// Ids that no task has; one stands just past the record.
-fn releases_refused(list: &mut CallLines) {
-    for (count, id) in [
-        (0, 1),
-        (0, 0),
-        (2, 0),
-        (2, 3),
-        (2, 255),
-        (15, 16),
-        (16, 17),
-        (16, 0),
-    ] {
+/// Counts of tasks, and ids that none of them has.
+const UNKNOWN: [(usize, u8); 8] = [
+    (0, 1),
+    (0, 0),
+    (2, 0),
+    (2, 3),
+    (2, 255),
+    (15, 16),
+    (16, 17),
+    (16, 0),
+];
+
+/// Past the record stand tasks with the ids that follow.
+fn unknown_ids(list: &mut CallLines, order: fn(u8) -> Order, unknown: &[(usize, u8)]) {
+    for &(count, id) in unknown {
         let mut buffer: Buffer = buffer(&with_light_tasks(plain(), MOST_TASKS), 0);
         buffer[at::COUNT] = count as u8;
-        put_length(&mut buffer, 109 + TASK as u16 * count);
-        ordered(list, Order::Release(id), &buffer);
+        put_length(&mut buffer, 109 + (TASK * count) as u16);
+        ordered(list, order(id), &buffer);
     }
 }
 

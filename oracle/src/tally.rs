@@ -4,7 +4,7 @@ use crate::ours::{differs, ours};
 use crate::progress;
 use sifli::claim::Broken;
 use sifli::lent::Left;
-use sifli::query::{Clocks, Query};
+use sifli::query::Query;
 use sifli::shrink::shrink;
 use std::collections::HashSet;
 
@@ -13,6 +13,9 @@ const SHOWN: u64 = 5;
 
 /// 0 and document 01's refusal numbers.
 pub const ANSWERS: usize = 44;
+
+/// More than any value of a call that has few.
+const VALUES: usize = 34;
 
 /// Queries between two looks at the clock.
 const QUERIES: u64 = 1024;
@@ -26,8 +29,8 @@ pub struct Tally {
     pub answers: [u64; ANSWERS],
     /// The most entries that were wanted.
     pub entries: usize,
-    /// How often a done call had a refusal number, or 0, as its value.
-    pub values: [u64; ANSWERS],
+    /// How often each value of a call that has few was the wanted one.
+    pub values: [u64; VALUES],
     /// Moments of which demand 3 was asked, and calls that broke a clause of it.
     pub moments: u64,
     pub broken: u64,
@@ -43,7 +46,7 @@ impl Tally {
             different: 0,
             answers: [0; ANSWERS],
             entries: 0,
-            values: [0; ANSWERS],
+            values: [0; VALUES],
             moments: 0,
             broken: 0,
             shown: HashSet::new(),
@@ -67,7 +70,7 @@ impl Tally {
         let (ours, wanted) = (ours(query), query.wanted());
         self.count(wanted.refusal());
         self.entries = self.entries.max(wanted.entries().len());
-        if query.call.clocks == Clocks::Written && wanted.refusal() == 0 {
+        if !query.call.values.is_empty() && wanted.refusal() == 0 {
             self.values[wanted.value() as usize] += 1;
         }
         let is_alike = ours == wanted;
@@ -89,6 +92,19 @@ impl Tally {
             self.show(format!(
                 "  differs: {query}\n    wanted {wanted}\n    rikkovan {ours}"
             ));
+        }
+    }
+
+    /// Counts a query as different where something does not hold of it, and prints the
+    /// smallest one like it.
+    pub fn hold(&mut self, query: &Query, holds: impl Fn(&Query) -> bool, broken: &str) {
+        if holds(query) {
+            return;
+        }
+        self.different += 1;
+        if self.different <= SHOWN {
+            let smallest = shrink(query, |query| !holds(query));
+            self.show(format!("  differs: {}\n    {broken}", smallest.query()));
         }
     }
 

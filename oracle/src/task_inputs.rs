@@ -1,5 +1,5 @@
-//! Tasks, lists of tasks, and heads with tasks, for load check, booking and
-//! release.
+//! Tasks, lists of tasks, and heads with tasks, for load check, booking, release and
+//! look-up.
 
 use crate::heads::{Buffer, buffer, likely, plain, put_register, with};
 use sifli::head::{BUFFER, Head, LONGEST_PERIOD, MOST_TASKS, TASK, Task, at, decode};
@@ -32,11 +32,12 @@ const PERIODS: [u32; 12] = [
 /// Steps by which the first 16 ids, from any id on, are all different.
 const STEPS: [usize; 6] = [1, 2, 7, 127, 128, 254];
 
-/// A booking, or a release of an id.
+/// A booking, or a release or a look-up of an id.
 #[derive(Clone, Copy)]
 pub enum Order {
     Book(Task),
     Release(u8),
+    LookUp(u8),
 }
 
 impl Order {
@@ -44,6 +45,7 @@ impl Order {
         let (id, arguments) = match self {
             Self::Book(task) => (Id::Book, [task.id.into(), task.cycles, task.period_us]),
             Self::Release(id) => (Id::Release, [id.into(), 0, 0]),
+            Self::LookUp(id) => (Id::LookUp, [id.into(), 0, 0]),
         };
         Query {
             arguments,
@@ -307,7 +309,7 @@ pub fn booked_id(random: &mut Random, head: &Head) -> u8 {
     }
 }
 
-/// An id to release: most often a booked one.
+/// An id to release or to look up: most often a booked one.
 pub fn random_id(random: &mut Random, head: &Head) -> u8 {
     match random.below(4) {
         0 => random.byte(),

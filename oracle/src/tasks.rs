@@ -1,5 +1,6 @@
-//! Share, load, load check, booking and release, from document 01. Nothing of
-//! them is in the original code, which gives only the HCLK of a booking.
+//! Share, load, load check, booking and release, from document 01, and the look-up,
+//! from document 02. Nothing of them is in the original code, which gives only the
+//! HCLK of a booking.
 
 use crate::head::{Head, MOST_TASKS, TASK, Task};
 use crate::readings;
@@ -69,6 +70,40 @@ pub fn release(head: &Head, id: u8) -> Result<Head, u64> {
     let mut head = head.clone();
     head.tasks.remove(place);
     Ok(head)
+}
+
+/// What a look-up answers: found or not, with "how many tasks it read".
+#[derive(Clone, Copy, PartialEq, Eq, Debug)]
+pub enum LookUp {
+    Hit(usize),
+    Miss(usize),
+}
+
+/// The values of the exported look-up: all that `LookUp::value` gives. A hit has read
+/// a task at least, so 1 is none of them.
+pub const LOOK_UPS: [usize; 33] = [
+    0, 2, 3, 4, 5, 6, 7, 8, 9, 10, 11, 12, 13, 14, 15, 16, 17, 18, 19, 20, 21, 22, 23, 24, 25, 26,
+    27, 28, 29, 30, 31, 32, 33,
+];
+
+impl LookUp {
+    /// Twice the tasks read, and one more on a hit.
+    pub fn value(self) -> u64 {
+        match self {
+            Self::Hit(read) => 2 * read as u64 + 1,
+            Self::Miss(read) => 2 * read as u64,
+        }
+    }
+}
+
+/// "The walk ends at the first hit, since an id stands in one place, or after the last
+/// task"; read are those "up to the hit and with it, or all of them without one".
+pub fn look_up(head: &Head, id: u8) -> LookUp {
+    let before_hit = head.tasks.iter().take_while(|task| task.id != id).count();
+    match before_hit < head.tasks.len() {
+        true => LookUp::Hit(before_hit + 1),
+        false => LookUp::Miss(before_hit),
+    }
 }
 
 fn has_id(tasks: &[Task], id: u8) -> bool {

@@ -235,7 +235,7 @@ check 'moments' calls moment
 check 'LPSYS request' calls lpsys_request
 check 'the other LPSYS calls' calls lpsys_calls
 check 'calibration, init and reconfigure' calls clock_config
-check 'load check, booking and release' calls tasks
+check 'load check, booking, release and look-up' calls tasks
 check 'guarded change' calls change
 check_with objdump 'no call needs more stack than the header says' stack_is_within_the_header
 check 'calls on a painted stack' calls stack

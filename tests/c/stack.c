@@ -78,6 +78,7 @@ CALL(reconfigure_sysclk, (HEAD, PLAN, clocks, JOURNAL, ANSWERS))
 CALL(load_check, (tasks, sizeof tasks))
 CALL(book, (HEAD, 99, 1, 1000))
 CALL(release, (HEAD, 1))
+CALL(look_up, (HEAD, 99))
 CALL(change, (HEAD, PLAN, JOURNAL, ANSWERS))
 
 static void nothing(void)
@@ -112,6 +113,7 @@ static const struct {
     {"load_check", load_check, RIKKOVAN_STACK_LOAD_CHECK},
     {"book", book, RIKKOVAN_STACK_BOOK},
     {"release", release, RIKKOVAN_STACK_RELEASE},
+    {"look_up", look_up, RIKKOVAN_STACK_LOOK_UP},
     {"change", change, RIKKOVAN_STACK_CHANGE},
 };
 

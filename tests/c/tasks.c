@@ -1,4 +1,4 @@
-/* Tests load check, booking and release. Prints a line for each failure. */
+/* Tests load check, booking, release and look-up. Prints a line for each failure. */
 #include "heads.h"
 
 #define MOST RIKKOVAN_MOST_TASKS
@@ -137,7 +137,7 @@ static void test_largest_load(void)
     expect_load("the last id is the first", list, sizeof list, RIKKOVAN_REFUSED_ID_IN_USE, 0);
 }
 
-/* Bookings and releases */
+/* Bookings, releases and look-ups */
 
 /* The head of make_head with other tasks and some bytes set, as lent and as wanted. */
 static void lend_tasks(struct lent *lent, const struct edit *edit, int edits,
@@ -188,6 +188,18 @@ static void expect_release(const char *name, struct lent *lent, size_t head_len,
         want_released(lent, place);
     expect(name, "word", word_of(refusal, 0, 0, 0),
            rikkovan_release(lent->head + 1, head_len, id).word);
+    expect_left(name, lent, 0, NULL);
+}
+
+/* A look-up reads so many tasks, and leaves the head; where it is refused, none. */
+static void expect_look_up(const char *name, const struct lent *lent, size_t head_len, uint8_t id,
+                           int hit, int read, uint32_t refusal)
+{
+    rikkovan_answer answer = rikkovan_look_up(lent->head + 1, head_len, id);
+
+    expect(name, "word", word_of(refusal, (uint32_t)(2 * read + hit), 0, 0), answer.word);
+    expect(name, "hit", (uint64_t)hit, (uint64_t)rikkovan_hit(answer));
+    expect(name, "tasks read", (uint64_t)read, rikkovan_tasks_read(answer));
     expect_left(name, lent, 0, NULL);
 }
 
@@ -290,6 +302,14 @@ static void test_sixteen(void)
                        RIKKOVAN_REFUSED_ID_UNKNOWN);
 }
 
+/* The first of sixteen tasks are the head's; the others stand past the record. */
+static void lend_first(struct lent *lent, const struct rikkovan_task *task, int count)
+{
+    lend_tasks(lent, NULL, 0, task, MOST);
+    put_count(lent->head + 1, count);
+    put_count(lent->wanted + 1, count);
+}
+
 /* Every place of every count, and ids that no task has; one of them stands just past the record. */
 static void test_releases(void)
 {
@@ -303,11 +323,35 @@ static void test_releases(void)
         for (id = 0; id < 256; id++) {
             int known = id >= 1 && id <= count;
 
-            lend_tasks(&lent, NULL, 0, task, MOST);
-            put_count(lent.head + 1, count);
-            put_count(lent.wanted + 1, count);
+            lend_first(&lent, task, count);
             expect_release("every id", &lent, RIKKOVAN_HEAD_BYTES, (uint8_t)id, id - 1,
                            known ? 0 : RIKKOVAN_REFUSED_ID_UNKNOWN);
+        }
+}
+
+/* The same of look-ups, with ids from 255 down. A release finds what the look-up found. */
+static void test_look_ups(void)
+{
+    struct rikkovan_task task[MOST];
+    struct lent lent;
+    int count, id, place;
+
+    for (place = 0; place < MOST; place++) {
+        task[place] = light(place);
+        task[place].id = (uint8_t)(255 - place);
+    }
+    for (count = 0; count <= MOST; count++)
+        for (id = 0; id < 256; id++) {
+            int hit;
+
+            place = 255 - id;
+            hit = place < count;
+            lend_first(&lent, task, count);
+            expect_look_up("every id", &lent, RIKKOVAN_HEAD_BYTES, (uint8_t)id, hit,
+                           hit ? place + 1 : count, 0);
+            expect_release("looked up", &lent, RIKKOVAN_HEAD_BYTES, (uint8_t)id, place,
+                           hit ? 0 : RIKKOVAN_REFUSED_ID_UNKNOWN);
+            expect_look_up("released", &lent, RIKKOVAN_HEAD_BYTES, (uint8_t)id, 0, count - hit, 0);
         }
 }
 
@@ -350,6 +394,7 @@ static void test_refusals(void)
             expect_book("refused head", &lent, one->head_len, &booked[k], one->refusal);
             lend_tasks(&lent, one->edit, 2, two, 2);
             expect_release("refused head", &lent, one->head_len, booked[k].id, 0, one->refusal);
+            expect_look_up("refused head", &lent, one->head_len, booked[k].id, 0, 0, one->refusal);
         }
     }
 }
@@ -373,6 +418,19 @@ static enum rikkovan_refusal refusal_of(const uint8_t *head)
     return load > hclk ? RIKKOVAN_REFUSED_LOAD : RIKKOVAN_NOT_REFUSED;
 }
 
+/* What a look-up of the second task gives on a head with two, held to a reading. */
+static void expect_second(const struct lent *lent)
+{
+    const uint8_t *head = lent->head + 1;
+    uint32_t clocks[RIKKOVAN_CLOCKS];
+    rikkovan_answer answer = rikkovan_read_clocks(head, RIKKOVAN_HEAD_BYTES, clocks);
+    int done = rikkovan_done(answer);
+
+    expect_look_up("a byte at every value", lent, RIKKOVAN_HEAD_BYTES, 2,
+                   done && head[RIKKOVAN_HEAD_AT_TASK(1)] == 2, done ? 2 : 0,
+                   rikkovan_refusal(answer));
+}
+
 /* Every byte of a head at every value, held to a reading and to the load check. */
 static void test_bytes(void)
 {
@@ -384,6 +442,7 @@ static void test_bytes(void)
         for (value = 0; value < 256; value++) {
             lend_tasks(&lent, NULL, 0, two, 2);
             lent.head[1 + at] = lent.wanted[1 + at] = (uint8_t)value;
+            expect_second(&lent);
             expect_book("a byte at every value", &lent, RIKKOVAN_HEAD_BYTES, &three,
                         refusal_of(lent.head + 1));
         }
@@ -397,6 +456,7 @@ int main(void)
     test_bookings();
     test_sixteen();
     test_releases();
+    test_look_ups();
     test_refusals();
     test_bytes();
     return failures != 0;

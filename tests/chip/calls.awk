@@ -1,6 +1,7 @@
 # awk -f calls.awk rikkovan.h calls.txt: a row for each call, from what the header declares,
 #   CALL(recorded name, exported name, READING or ON_HEAD, clocks lent, what is passed..)
-# The argument of a recorded line is a record that is only read, or the numbers of the call one after the other.
+# The argument of a recorded line is a record that is only read, or the numbers of the call one after the other; a head that is only read
+# stands beside numbers as one that is written does.
 function fail(what) { print "calls.awk: " what >"/dev/stderr"; failed = 1; exit 1 }
 
 # The next number of the call, of so many bits, at its place in the argument.
@@ -12,7 +13,7 @@ function passed(parameter, next_one,    words, n, name, type, has_length) {
     type = parameter
     sub(/ [a-z0-9_]+(\[[A-Z_]+\])?$/, "", type)
     has_length = next_one == "uint64_t " name "_len"
-    if (has_length && type == "const uint8_t *") return "ARGUMENT"
+    if (has_length && type == "const uint8_t *") { only_read = name; return "ARGUMENT" }
     if (has_length && type == "uint8_t *" && name == "head") { kind = "ON_HEAD"; return "HEAD" }
     if (has_length && type == "uint32_t *" && name == "journal") return "JOURNAL"
     if (has_length && type == "const uint16_t *") return "ANSWERS"
@@ -22,12 +23,13 @@ function passed(parameter, next_one,    words, n, name, type, has_length) {
 }
 
 function row(call,    parameters, n, i, words) {
-    kind = "READING"; clocks = "0"; taken = 0; words = ""
+    kind = "READING"; clocks = "0"; taken = 0; words = ""; only_read = ""
     n = split(declared[call], parameters, /, */)
     for (i = 1; i <= n; i++) {
         words = words ", " passed(parameters[i], parameters[i + 1])
         if (words ~ /(ARGUMENT|HEAD|JOURNAL|ANSWERS)$/) i++
     }
+    if (taken > 0 && only_read == "head" && sub(/ARGUMENT/, "HEAD", words)) kind = "ON_HEAD"
     if (taken > 0 && words ~ /ARGUMENT/) fail(call " has a record that is only read, and numbers")
     return kind ", " clocks words
 }

@@ -126,6 +126,11 @@ static uint64_t release(const struct lent *lent)
     return rikkovan_release(LENT(HEAD), lent->byte[0]).word;
 }
 
+static uint64_t look_up(const struct lent *lent)
+{
+    return rikkovan_look_up(LENT(HEAD), lent->byte[0]).word;
+}
+
 static uint64_t change(const struct lent *lent)
 {
     return rikkovan_change(LENT(HEAD), LENT(PLAN), LENT(JOURNAL), LENT(ANSWERS)).word;
@@ -170,6 +175,7 @@ const struct call calls[CALLS] = {
     {"rikkovan_load_check", load_check, T, T, 0, R(1) | R(16) | R(40) | R(41)},
     {"rikkovan_book", book, H, 0, 0, HEADS | R(16) | R(34) | R(39) | R(40) | R(41)},
     {"rikkovan_release", release, H, 0, 0, HEADS | R(42)},
+    {"rikkovan_look_up", look_up, H, H, 0, HEADS},
     {"rikkovan_change", change, H | P | J | A, P | A, 20,
      WAITS | PLANS | R(37) | R(38) | R(39)},
 };

@@ -50,6 +50,28 @@ static void check_refusal(const struct made *made)
         expect(made, made->refusal == 0 || made->is_kept, "refused, and no test fails");
 }
 
+/* The tasks up to the one with the id, or all; release and book find it where the look-up does. */
+static void check_look_up(const struct made *made)
+{
+    rikkovan_answer answer = rikkovan_answer_of(made->answer), released, booked;
+    uint8_t head[RIKKOVAN_HEAD_BYTES], id = made->given->byte[0];
+    uint32_t place, tasks;
+    int hit;
+
+    memcpy(head, made->given->at[HEAD], sizeof head);
+    tasks = rikkovan_get_task_count(head);
+    place = model_place(head, id);
+    hit = place < tasks;
+    expect(made, rikkovan_hit(answer) == hit, "a hit or a miss, against the tasks");
+    expect(made, rikkovan_tasks_read(answer) == (hit ? place + 1 : tasks), "not the tasks read");
+    booked = rikkovan_book(head, sizeof head, id, 1, 1);
+    expect(made, (rikkovan_refusal(booked) == RIKKOVAN_REFUSED_ID_IN_USE) == hit,
+           "book finds the id otherwise");
+    memcpy(head, made->given->at[HEAD], sizeof head);
+    released = rikkovan_release(head, sizeof head, id);
+    expect(made, rikkovan_done(released) == hit, "release finds the id otherwise");
+}
+
 static void check_value(const struct made *made)
 {
     uint32_t value = rikkovan_value(rikkovan_answer_of(made->answer));
@@ -64,6 +86,7 @@ static void check_value(const struct made *made)
         expect(made, value == 0 || value == RIKKOVAN_REFUSED_HXT48_NOT_READY ||
                          value == RIKKOVAN_REFUSED_DIFFERENCE, "no value of init");
         break;
+    case LOOK_UP: check_look_up(made); break;
     default: expect(made, value == 0, "a value");
     }
 }
@@ -111,12 +134,11 @@ static void put_entry(uint8_t *head, uint32_t entry)
 
 static void put_released(uint8_t *head, uint8_t id)
 {
-    uint8_t count = rikkovan_get_task_count(head), place = 0;
+    uint8_t count = rikkovan_get_task_count(head);
+    uint32_t place = model_place(head, id);
 
-    while (rikkovan_get_head_task(head, place).id != id)
-        place++;
     memmove(head + RIKKOVAN_HEAD_AT_TASK(place), head + RIKKOVAN_HEAD_AT_TASK(place + 1),
-            (size_t)RIKKOVAN_TASK_BYTES * (size_t)(count - place - 1));
+            (size_t)RIKKOVAN_TASK_BYTES * (count - place - 1));
     rikkovan_put_task_count(head, (uint8_t)(count - 1));
 }
 

@@ -77,6 +77,7 @@ enum which {
     LOAD_CHECK,
     BOOK,
     RELEASE,
+    LOOK_UP,
     CHANGE,
     CALLS
 };
@@ -113,6 +114,7 @@ uint32_t model_tasks_refusal(const uint8_t *tasks, unsigned count);
 uint64_t model_share(uint32_t cycles, uint32_t period_us);
 uint64_t model_load(const uint8_t *tasks, unsigned count);
 uint64_t model_booked_load(const uint8_t *head);
+uint32_t model_place(const uint8_t *head, uint8_t id);
 uint32_t model_rail_limit(const uint8_t *head);
 enum rikkovan_unfit model_unfit(const uint8_t *head);
 int model_is_fit(const uint8_t *head);

@@ -77,6 +77,16 @@ uint64_t model_booked_load(const uint8_t *head)
     return model_load(head + RIKKOVAN_HEAD_AT_TASK(0), head[RIKKOVAN_HEAD_AT_TASK_COUNT]);
 }
 
+/* The place of the task with an id, and the number of tasks where none has it. */
+uint32_t model_place(const uint8_t *head, uint8_t id)
+{
+    uint32_t place = 0;
+
+    while (place < rikkovan_get_task_count(head) && rikkovan_get_head_task(head, place).id != id)
+        place++;
+    return place;
+}
+
 uint32_t model_head_refusal(const uint8_t *head, size_t len)
 {
     unsigned tasks, reg, byte, flag;

@@ -7,12 +7,7 @@ static uint32_t plan_refusal(const struct lent *given)
 
 static int has_task(const uint8_t *head, uint8_t id)
 {
-    unsigned k;
-
-    for (k = 0; k < rikkovan_get_task_count(head); k++)
-        if (rikkovan_get_head_task(head, k).id == id)
-            return 1;
-    return 0;
+    return model_place(head, id) < rikkovan_get_task_count(head);
 }
 
 static uint32_t book_refusal(const struct lent *given, const uint8_t *head)

@@ -75,6 +75,13 @@ pub fn release(head: &mut [u8], id: u8) -> Word {
     Word(unsafe { sys::rikkovan_release(head.as_mut_ptr(), head.len() as u64, id) })
 }
 
+/// Looks up the task with an id on a head: the value is the number of tasks read * 2, plus 1 for a
+/// hit.
+#[inline]
+pub fn look_up(head: &[u8], id: u8) -> Word {
+    Word(unsafe { sys::rikkovan_look_up(head.as_ptr(), head.len() as u64, id) })
+}
+
 /// Changes the core clock of a fit head, guarded.
 #[inline]
 pub fn change(head: &mut [u8], plan: &[u8], journal: &mut [u32], answers: &[u16]) -> Word {

@@ -6,7 +6,7 @@ use crate::fit::{Fit, FIT_NUMBERS};
 use crate::numbered::numbered;
 use crate::refusal::Refusal;
 use crate::register::Register;
-use crate::task::{load_of, Task};
+use crate::task::{load_of, LookUp, Task};
 
 const BOOT_MODE: usize = 108;
 const WAKE_COUNT: usize = 109;
@@ -161,6 +161,27 @@ impl Head {
         let word = bytes::read_fit(&self.bytes, &mut fit);
         debug_assert_eq!(word.refusal(), None);
         fit.into()
+    }
+
+    /// Looks up the task with an id, from the first one on, and counts the tasks that it reads. No
+    /// task has the id 0.
+    ///
+    /// ```
+    /// use rikkovan::{Head, LookUp};
+    ///
+    /// // The tasks 1 and 2.
+    /// let head = Head::from_bytes(&std::fs::read("../../examples/heads/s240-tasks.head")?)?;
+    /// assert_eq!(head.look_up(1), LookUp::Hit { read: 1 });
+    /// assert_eq!(head.look_up(9), LookUp::Miss { read: 2 });
+    ///
+    /// let second = head.look_up(2).place().and_then(|place| head.tasks().nth(place));
+    /// assert_eq!(second.map(|task| task.cycles), Some(38_400));
+    /// # Ok::<(), Box<dyn std::error::Error>>(())
+    /// ```
+    pub fn look_up(&self, id: u8) -> LookUp {
+        let word = bytes::look_up(&self.bytes, id);
+        debug_assert_eq!(word.refusal(), None);
+        LookUp::of_value(word.value())
     }
 
     fn task_bytes(&self) -> &[u8] {

@@ -36,6 +36,6 @@ pub use plan::Plan;
 pub use play::{play, Asked, Chip};
 pub use refusal::{Refusal, UnknownRefusal};
 pub use register::Register;
-pub use task::{load_check, Task};
+pub use task::{load_check, LookUp, Task};
 pub use time::{Hertz, Megahertz};
 pub use word::Word;

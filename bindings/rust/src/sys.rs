@@ -122,6 +122,7 @@ extern "C" {
     pub fn rikkovan_load_check(tasks: *const u8, tasks_len: u64) -> u64;
     pub fn rikkovan_book(head: *mut u8, head_len: u64, id: u8, cycles: u32, period_us: u32) -> u64;
     pub fn rikkovan_release(head: *mut u8, head_len: u64, id: u8) -> u64;
+    pub fn rikkovan_look_up(head: *const u8, head_len: u64, id: u8) -> u64;
 
     pub fn rikkovan_change(
         head: *mut u8,

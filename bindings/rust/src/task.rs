@@ -1,4 +1,4 @@
-//! Tasks and their load.
+//! Tasks, their load, and one looked up.
 
 use crate::bytes;
 use crate::refusal::Refusal;
@@ -35,6 +35,40 @@ impl Task {
             id,
             cycles: u32::from_be_bytes([c0, c1, c2, c3]),
             period_us: u32::from_be_bytes([p0, p1, p2, p3]),
+        }
+    }
+}
+
+/// What [`Head::look_up`](crate::Head::look_up) finds.
+#[derive(Debug, Clone, Copy, PartialEq, Eq)]
+pub enum LookUp {
+    /// A task has the id.
+    Hit {
+        /// The number of tasks read, up to that one and with it.
+        read: usize,
+    },
+    /// No task has the id.
+    Miss {
+        /// The number of tasks read: all of them.
+        read: usize,
+    },
+}
+
+impl LookUp {
+    /// The place of the task in [`Head::tasks`](crate::Head::tasks), 0 for the first.
+    pub const fn place(self) -> Option<usize> {
+        match self {
+            Self::Hit { read } => Some(read - 1),
+            Self::Miss { .. } => None,
+        }
+    }
+
+    /// Of the value that [`bytes::look_up`] gives.
+    pub(crate) const fn of_value(value: u32) -> Self {
+        let read = (value >> 1) as usize;
+        match value & 1 {
+            1 => Self::Hit { read },
+            _ => Self::Miss { read },
         }
     }
 }

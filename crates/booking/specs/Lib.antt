@@ -1,3 +1,4 @@
 pub mod Booking
 pub mod tests
 pub mod Release
+pub mod LookUp

@@ -1,10 +1,11 @@
-// Booking a task on a head, within its clock, and releasing one.
+// Booking a task on a head, within its clock, releasing one, and looking one up.
 pub mod tests;
 
 ghost use mathlib.Core.List.{[]};
 ghost use Rattle.call.specs.Call.{Answers};
 ghost use Rattle.booking.specs.Booking.{book};
 ghost use Rattle.booking.specs.Release.{release};
+ghost use Rattle.booking.specs.LookUp.{lookUpCall};
 use call::Answer;
 use task::Task;
 use task::look_up::LookUp;
@@ -42,4 +43,22 @@ pub fn release(buffer: &mut [u8], id: u8) -> Answer
     };
     let m = call::start(head::tasks::without_place(head, read as usize - 1));
     call::finish(m, 0, buffer)
+}
+
+// Looks for the task of an id.
+pub fn look_up(buffer: &[u8], id: u8) -> Answer
+    ensures { λ r. ⌜ Answers (lookUpCall id (now (buffer .entry))) r (now (buffer .entry)) [] ⌝ }
+{
+    let admitted = call::admit_head(buffer);
+    if admitted.refusal != 0 {
+        return Answer::refused(admitted.refusal);
+    }
+    let head = admitted.head;
+    let tasks = head.tasks;
+    Answer {
+        refusal: 0,
+        value: task::look_up::look_up(tasks, head.count, id).value(),
+        entries: 0,
+        taken: 0,
+    }
 }

@@ -1,4 +1,4 @@
-// A booking and a release, run on an argument's bytes.
+// A booking, a release and a look-up, run on an argument's bytes.
 ghost use mathlib.Core.List.{[]};
 ghost use Rattle.call.specs.Call.{Answers};
 ghost use Rattle.recorded_call.specs.tasks.{resultOf};
@@ -7,6 +7,7 @@ use call::Answer;
 pub enum Call {
     Book,
     Release,
+    LookUp,
 }
 
 pub fn run(call: Call, argument: &[u8], buffer: &mut [u8]) -> Answer
@@ -18,5 +19,6 @@ pub fn run(call: Call, argument: &[u8], buffer: &mut [u8]) -> Answer
     match call {
         Call::Book => booking::book(buffer, id, cycles, period),
         Call::Release => booking::release(buffer, id),
+        Call::LookUp => booking::look_up(buffer, id),
     }
 }

@@ -1,7 +1,8 @@
 // Replays recorded answers: those of the original Rust and, of load check, booking, release and the
-// guarded change, those of document 01. Each call has a file of its name, with a line for each time
-// that it was made: what it was given and what it answered (modules `reading` and `calls`). Our answer
-// to the same is compared with the recorded one, and of each file the program says how many lines differ.
+// guarded change, those of document 01, of the look-up those of document 02. Each call has a file of its
+// name, with a line for each time that it was made: what it was given and what it answered (modules
+// `reading` and `calls`). Our answer to the same is compared with the recorded one, and of each file the
+// program says how many lines differ.
 mod calls;
 mod files;
 mod output;
@@ -56,6 +57,7 @@ fn calls_of_config() {
 fn calls_of_tasks() {
     tasks(recorded_call::tasks::Call::Book, b"book");
     tasks(recorded_call::tasks::Call::Release, b"release");
+    tasks(recorded_call::tasks::Call::LookUp, b"look_up");
 }
 
 fn main() {

@@ -94,6 +94,27 @@ fn tasks_go_but_for_the_one_that_is_needed() {
     assert_eq!(head.registers, Head::plain().registers);
 }
 
+/// A look-up that reads on after a hit.
+fn wrong_look_up(query: &Query, lent: Lent) -> u64 {
+    let word = (query.call.wanted)(query, lent);
+    match decode(query.bytes) {
+        Ok(head) if word % 2 == 1 => 2 * head.tasks.len() as u64 + 1,
+        _ => word,
+    }
+}
+
+#[test]
+fn a_wrong_look_up_is_shown_by_two_tasks() {
+    let mut query = any_query(Id::LookUp);
+    query.arguments[0] = 9;
+    let differs = |query: &Query| query.by(wrong_look_up) != query.wanted();
+    let smallest = shrink(&query.query(), differs);
+    let head = decode(&smallest.bytes).expect("a head");
+    assert_eq!(head.tasks.len(), 2);
+    assert_eq!(smallest.arguments, [head.tasks[0].id.into(), 0, 0]);
+    assert_eq!(head.registers, Head::plain().registers);
+}
+
 #[test]
 fn a_list_of_tasks_gets_shorter() {
     let mut query = any_query(Id::LoadCheck);
@@ -120,6 +141,7 @@ fn a_line_is_read_as_it_was_written() {
         Id::Div,
         Id::Wake,
         Id::Book,
+        Id::LookUp,
         Id::ReadLpsys,
         Id::PlanCheck,
     ] {
@@ -131,7 +153,7 @@ fn a_line_is_read_as_it_was_written() {
     }
 }
 
-/// Id, cycles and period of a booking; a frequency in MHz; a plan.
+/// Id, cycles and period of a booking; a frequency in MHz; an id; a plan.
 #[test]
 fn an_argument_has_its_high_byte_first() {
     let argument = |id| {
@@ -142,6 +164,7 @@ fn an_argument_has_its_high_byte_first() {
     assert_eq!(argument(Id::Book), "2F0000002E0000002D");
     assert_eq!(argument(Id::Request), "0000002F");
     assert_eq!(argument(Id::Div), "2F2E2D");
+    assert_eq!(argument(Id::LookUp), "2F");
     assert_eq!(argument(Id::Wake), "-");
     assert_eq!(
         argument(Id::Change),

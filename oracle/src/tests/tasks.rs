@@ -1,7 +1,10 @@
 use super::{at_48_mhz, at_240_mhz, on_dbl96};
 use crate::head::{BUFFER, Head, Task, decode};
+use crate::lent::REFUSED;
+use crate::query::{Id, Query, call};
 use crate::random::Random;
-use crate::tasks::{book, load, load_check, release, share};
+use crate::tasks::LookUp::{Hit, Miss};
+use crate::tasks::{LOOK_UPS, book, load, load_check, look_up, release, share};
 
 fn task(id: u8, cycles: u32, period_us: u32) -> Task {
     Task {
@@ -149,6 +152,52 @@ fn releases() {
     assert_eq!(release(&with_tasks(at_48_mhz(), 0), 1), Err(42));
 }
 
+/// Each of three ids, ids that no task has, and the same after a release.
+#[test]
+fn look_ups() {
+    let head = with_tasks(on_dbl96(), 3);
+    assert_eq!(look_up(&head, 1), Hit(1));
+    assert_eq!(look_up(&head, 2), Hit(2));
+    assert_eq!(look_up(&head, 3), Hit(3));
+    for unknown in [0, 4, 255] {
+        assert_eq!(look_up(&head, unknown), Miss(3));
+    }
+    assert_eq!(look_up(&with_tasks(on_dbl96(), 0), 1), Miss(0));
+    let moved_up = release(&head, 1).unwrap();
+    assert_eq!(look_up(&moved_up, 3), Hit(2));
+    assert_eq!(look_up(&moved_up, 1), Miss(2));
+}
+
+/// Every hit and every miss; the values are just those that are listed, and the bytes
+/// stay.
+#[test]
+fn values_of_look_ups() {
+    let mut values = Vec::<usize>::new();
+    for count in 0..=16 {
+        let mut buffer = [0xEE; BUFFER];
+        with_tasks(at_48_mhz(), count).encode(&mut buffer);
+        for id in 0..=17u8 {
+            let query = Query {
+                arguments: [id.into(), 0, 0],
+                ..Query::on(call(Id::LookUp), &buffer)
+            };
+            let left = query.wanted();
+            let value = match (1..=count).contains(&id) {
+                true => 2 * id + 1,
+                false => 2 * count,
+            };
+            assert_eq!(left.word, value.into());
+            assert_eq!(left.bytes(), buffer);
+            values.push(value.into());
+        }
+    }
+    values.sort();
+    values.dedup();
+    assert_eq!(values, LOOK_UPS);
+    let refused = Query::on(call(Id::LookUp), &[0; 7]).wanted();
+    assert_eq!(refused.word, REFUSED | 1);
+}
+
 /// The bytes past the record: a booking changes those of its task, a release
 /// leaves the last task's former place as it was.
 #[test]
@@ -188,9 +237,15 @@ fn on_random_heads() {
             1 + random.below(10_000_000) as u32,
         );
         assert_eq!(load_check(&list(&head.tasks)), Ok(load(&head.tasks)));
+        for id in [0, 1, 16, 100, 255] {
+            let is_hit = matches!(look_up(&head, id), Hit(_));
+            assert_eq!(is_hit, release(&head, id).is_ok());
+            assert_eq!(is_hit, book(&head, task(id, 1, 1)) == Err(40));
+        }
         let Ok(after) = book(&head, new) else {
             continue;
         };
+        assert_eq!(look_up(&after, 255), Hit(after.tasks.len()));
         done += 1;
         let mut buffer = [0; BUFFER];
         after.encode(&mut buffer);

@@ -1,7 +1,7 @@
 //! Heads and their bytes.
 
 use crate::{example, examples, head};
-use rikkovan::{bytes, load_check, Head, Refusal, Register, Task, LPSYS_CLOCKS};
+use rikkovan::{bytes, load_check, Head, LookUp, Refusal, Register, Task, LPSYS_CLOCKS};
 
 #[test]
 fn a_new_head_is_accepted() {
@@ -115,6 +115,30 @@ fn the_largest_load() {
     for most in [17, 18, 255] {
         let tasks: Vec<Task> = (1..=most).map(task).collect();
         assert_eq!(load_check(&tasks), Err(Refusal::Tasks));
+    }
+}
+
+#[test]
+fn every_id_is_looked_up_as_it_is_released() {
+    let mut booked = head("s240");
+    for count in 0..=Task::MOST {
+        for id in 0..=255 {
+            let found = booked.tasks().position(|task| task.id == id);
+            let expected = match found {
+                Some(place) => LookUp::Hit { read: place + 1 },
+                None => LookUp::Miss { read: count },
+            };
+            assert_eq!(booked.look_up(id), expected);
+            assert_eq!(booked.look_up(id).place(), found);
+            assert_eq!(booked.clone().release(id).is_ok(), found.is_some());
+        }
+        let task = Task {
+            id: 255 - 3 * count as u8,
+            cycles: 1,
+            period_us: 1_000,
+        };
+        let refusal = (count == Task::MOST).then_some(Refusal::Tasks);
+        assert_eq!(booked.book(task).err(), refusal);
     }
 }
 

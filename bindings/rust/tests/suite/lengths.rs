@@ -14,13 +14,14 @@ type Call = fn(&mut [u8], &[u8], &mut [u32], &[u16]) -> Word;
 
 /// Those of tasks and readings, then those that are lent a journal, then those that are lent a
 /// plan too.
-const CALLS: [Call; 20] = [
+const CALLS: [Call; 21] = [
     |head, _, _, _| bytes::read_clocks(head, &mut [0; CLOCKS]),
     |head, _, _, _| bytes::read_lpsys(head, &mut [0; LPSYS_CLOCKS]),
     |head, _, _, _| bytes::read_fit(head, &mut [0; FIT_NUMBERS]),
     |head, _, _, _| bytes::moment(head, &[0x0100_0001, 0x3000_01E0]),
     |head, _, _, _| bytes::book(head, 1, 1, 1_000),
     |head, _, _, _| bytes::release(head, 1),
+    |head, _, _, _| bytes::look_up(head, 1),
     |head, _, journal, _| bytes::config_lpsys_hclk_mhz(head, 20, journal),
     |head, _, journal, _| bytes::ensure_safe_lcpu_frequency(head, journal),
     |head, _, journal, _| bytes::set_lpsys_hdiv(head, 1, journal),
@@ -39,8 +40,8 @@ const CALLS: [Call; 20] = [
     bytes::change,
 ];
 
-const FIRST_WITH_JOURNAL: usize = 6;
-const FIRST_WITH_PLAN: usize = 17;
+const FIRST_WITH_JOURNAL: usize = 7;
+const FIRST_WITH_PLAN: usize = 18;
 
 /// Makes every call with these lengths, and gives it and its word to a test.
 fn each(head_len: usize, plan_len: usize, journal_len: usize, test: impl Fn(usize, Word)) {

@@ -25,6 +25,12 @@ enum-told-2 c = search needs
 release-requires : tie.Need-release-requires
 release-requires c κs = search needs
 
+enum-told-3 : tie.Need-enum-told-3
+enum-told-3 c = search needs
+
+look-up-requires : tie.Need-look-up-requires
+look-up-requires c κs = search needs
+
 same-length : tie.Need-same-length
 same-length c = search needs
 
@@ -48,6 +54,16 @@ returns-2 c =
     let after-byte-at : tie.After-byte-at = search in
     rw ((after-enum-told2 .enum-told2 .given .1), ← (after-byte-at .byte-at .ensures)) (after-release .release .ensures)
 
+same-length-3 : tie.Need-same-length-3
+same-length-3 c = search needs
+
+returns-3 : tie.Need-returns-3
+returns-3 c =
+    let after-look-up : tie.After-look-up = search in
+    let after-enum-told3 : tie.After-enum-told3 = search in
+    let after-byte-at : tie.After-byte-at = search in
+    rw ((after-enum-told3 .enum-told3 .given .1), ← (after-byte-at .byte-at .ensures)) (after-look-up .look-up .ensures)
+
 pub run-spec : {M : Type 1} → statement M
 run-spec =
     tie.close
@@ -59,7 +75,11 @@ run-spec =
     book-requires
     enum-told-2
     release-requires
+    enum-told-3
+    look-up-requires
     same-length
     returns
     same-length-2
-    returns-2)
+    returns-2
+    same-length-3
+    returns-3)
