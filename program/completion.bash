@@ -3,14 +3,14 @@ _rikkovan() {
     local word=${COMP_WORDS[COMP_CWORD]} command=${COMP_WORDS[1]}
     COMPREPLY=()
     if [ "$COMP_CWORD" -eq 1 ]; then
-        mapfile -t COMPREPLY < <(compgen -W 'check load read change book release lpsys --help --version' -- "$word")
+        mapfile -t COMPREPLY < <(compgen -W 'check load read change book release look-up lpsys --help --version' -- "$word")
         return
     fi
     case $command:$word in
     change:-* | book:-* | release:-* | lpsys:-*)
         mapfile -t COMPREPLY < <(compgen -W '--write --help' -- "$word")
         ;;
-    check:-* | load:-* | read:-*)
+    check:-* | load:-* | read:-* | look-up:-*)
         mapfile -t COMPREPLY < <(compgen -W '--help' -- "$word")
         ;;
     *)

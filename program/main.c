@@ -24,6 +24,7 @@ static const struct command commands[] = {
     {"book", "HEAD ID CYCLES PERIOD", "book a task: core cycles in each period, in us", 4, 4, 1,
      run_book},
     {"release", "HEAD ID", "release a task", 2, 2, 1, run_release},
+    {"look-up", "HEAD ID", "look for the task with an id", 2, 2, 0, run_look_up},
     {"lpsys", "HEAD MHZ", "request an HCLK of the low-power system, by moments", 2, 2, 1,
      run_lpsys},
 };
@@ -44,8 +45,8 @@ static void print_help(void)
         if (commands[k].writes)
             printf(" %s", commands[k].name);
     printf(".\n\n"
-           "Exit status: 0 done or accepted, 1 refused, 2 misuse or a file that cannot be read or\n"
-           "written. rikkovan(1) says more.\n");
+           "Exit status: 0 done or accepted, 1 refused, or no task has the id, 2 misuse or a file\n"
+           "that cannot be read or written. rikkovan(1) says more.\n");
 }
 
 static void print_usage(FILE *stream, const struct command *command)

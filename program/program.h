@@ -12,7 +12,7 @@
 /* The exit status of the program; of several files the highest. */
 enum status {
     STATUS_DONE = 0,    /* done or accepted */
-    STATUS_REFUSED = 1, /* the library refuses it */
+    STATUS_REFUSED = 1, /* the library refuses it, or no task has the id */
     STATUS_FAILED = 2   /* misuse, or a file that cannot be read or written */
 };
 
@@ -29,6 +29,7 @@ enum status run_read(const struct request *request);
 enum status run_change(const struct request *request);
 enum status run_book(const struct request *request);
 enum status run_release(const struct request *request);
+enum status run_look_up(const struct request *request);
 enum status run_lpsys(const struct request *request);
 
 /* input.c: files and numbers. What fails is said on standard error. */
@@ -88,7 +89,8 @@ struct call {
 enum status begin_call(struct call *call, const char *head);
 enum status end_call(const struct call *call, const struct request *request);
 
-/* tasks.c: the booked tasks of a head, their load and what carries it. */
+/* tasks.c: some booked tasks of a head; all of them, their load and what carries it. */
+void show_places(const uint8_t *head, uint32_t first, uint32_t count);
 void show_tasks(const struct file *head);
 
 /* words.c: what a journal entry does, a delay also in time, at the HCLK of its moment. */

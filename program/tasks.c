@@ -4,7 +4,7 @@
 #include <stdio.h>
 
 /* The share of a task is the load of a list that has it alone. */
-static void show_task(const uint8_t *head, uint8_t place)
+static void show_task(const uint8_t *head, uint32_t place)
 {
     struct rikkovan_task task = rikkovan_get_head_task(head, place);
     uint8_t alone[RIKKOVAN_TASK_BYTES];
@@ -16,19 +16,26 @@ static void show_task(const uint8_t *head, uint8_t place)
            grouped(share).line);
 }
 
+/* So many tasks from a place on, in columns. */
+void show_places(const uint8_t *head, uint32_t first, uint32_t count)
+{
+    uint32_t place;
+
+    printf("task          cycles     period us                cycles/s\n");
+    for (place = first; place < first + count; place++)
+        show_task(head, place);
+}
+
 /* Nothing of a head that is refused. */
 void show_tasks(const struct file *head)
 {
     struct reading reading;
-    uint8_t place;
     uint32_t hclk;
 
     if (read_head(head, &reading) != RIKKOVAN_NOT_REFUSED)
         return;
     hclk = reading.clocks[RIKKOVAN_CLOCK_HCLK];
-    printf("task          cycles     period us                cycles/s\n");
-    for (place = 0; place < rikkovan_get_task_count(head->bytes); place++)
-        show_task(head->bytes, place);
+    show_places(head->bytes, 0, rikkovan_get_task_count(head->bytes));
     printf("load%54s\n", grouped(reading.fit[RIKKOVAN_FIT_LOAD]).line);
     printf("HCLK%54s\n", hclk == 0 ? "-" : grouped(hclk).line);
 }

@@ -88,7 +88,7 @@ patched() { # NAME HEAD [PLACE BYTE]..
 # Commands: what they print
 
 commands_of_the_help() {
-    ends_with 0 --help && sed -n 's/^  \([a-z]*\)  *[A-Z].*/\1/p' "$work/written" >"$work/commands" &&
+    ends_with 0 --help && sed -n 's/^  \([a-z-]*\)  *[A-Z].*/\1/p' "$work/written" >"$work/commands" &&
         [ -s "$work/commands" ]
 }
 
@@ -98,7 +98,7 @@ man_page_has_every_command() {
 
 every_command_has_a_file() {
     commands_of_the_help && diff <(sort "$work/commands") \
-        <(grep -l '^enum status run_' program/*.c | sed 's|.*/\(.*\)\.c|\1|' | sort)
+        <(grep -l '^enum status run_' program/*.c | sed 's|.*/\(.*\)\.c|\1|; s/_/-/' | sort)
 }
 
 # What bash offers for the words of a command line, the last one unfinished.
@@ -163,6 +163,17 @@ shows_a_slow_delay() {
     ends_with 0 lpsys "$work/slow" 48 && grep -q '^3   delay 47 cycles, 249\.687 us  ' "$work/written"
 }
 
+# On a head with the tasks 1 and 2: the status is that of a release, and no task is read behind a hit.
+looks_up_as_release() {
+    local id status
+    for id in 0 1 2 3 255; do
+        status=0
+        "$program" release $heads/s240-tasks.head "$id" >"$work/released" 2>&1 || status=$?
+        ends_with "$status" look-up $heads/s240-tasks.head "$id" &&
+            diff <(echo "tasks read: $((id == 1 ? 1 : 2)) of 2") <(sed -n 's/.*, \(tasks read: .*\)/\1/p' "$work/written") || return
+    done
+}
+
 takes_4096() {
     ends_with 0 change $heads/d48.head $plans/default.plan "$work/most" &&
         grep -q '^11  wait for DLL1, answers: 4096 ' "$work/written"
@@ -187,6 +198,11 @@ test_commands() {
     check 'book' shows book 0 book $heads/s240-tasks.head 9 81600 1000
     check 'book above HCLK' shows book-39 1 book $heads/s240-tasks.head 9 81601 1000
     check 'release' shows release 0 release $heads/s240-tasks.head 1
+    check 'look-up' shows look-up 0 look-up $heads/s240-tasks.head 2
+    check 'look-up of an id that no task has' writes 1 look-up $heads/s240-tasks.head 9 \
+        <<<"$heads/s240-tasks.head: not booked, tasks read: 2 of 2"
+    check 'look-up of id 0 on a head without tasks' writes 1 look-up $heads/d48.head 0 <<<"$heads/d48.head: not booked, tasks read: 0 of 0"
+    check 'look-up of ids, held to release' looks_up_as_release
     check 'lpsys' shows lpsys 0 lpsys tests/lpset/heads/s48.head 20
     check 'lpsys with a delay' shows lpsys-up 0 lpsys tests/lpset/heads/d24.head 48
     patched slow d48 6 FF 78 02 86 00
@@ -226,7 +242,7 @@ test_refusals() {
 END2
     patched version-2 d48 2 02
     patched code d48 3 01
-    for number in read 'change H P' 'book H 1 1 1' 'release H 1' 'lpsys H 24'; do
+    for number in read 'change H P' 'book H 1 1 1' 'release H 1' 'look-up H 1' 'lpsys H 24'; do
         plan=${number/ H/ $work/version-2}
         plan=${plan/ P/ $plans/short.plan}
         [ "$number" = read ] && plan="read $work/version-2"
@@ -271,12 +287,15 @@ test_errors() {
     check 'a number of 40 digits' fails 'MHZ: "1000000000000000000000000000000000000000" is not a number from 0 to 4294967295' \
         lpsys $heads/d48.head 1000000000000000000000000000000000000000
     check 'no number' fails 'ID: "" is not a number from 0 to 255' release $heads/d48.head ''
+    check 'an id of 256 looked up' fails 'ID: "256" is not a number from 0 to 255' look-up $heads/d48.head 256
+    check 'look-up on a missing file' fails 'nosuch.head: No such file or directory' look-up nosuch.head 1
     check 'no argument' misused 'COMMAND OPERAND..; rikkovan --help lists the commands'
     check 'an unknown command' fails 'no command moments; rikkovan --help lists them' moments
     check 'check without a plan' misused 'check PLAN..' check
     check 'read of two heads' misused 'read HEAD' read $heads/d48.head $heads/s240.head
     check 'change without a plan' misused 'change [--write] HEAD PLAN [ANSWERS]' change $heads/d48.head
     check 'read with --write' misused 'read HEAD' read --write $heads/d48.head
+    check 'look-up with --write' misused 'look-up HEAD ID' look-up --write $heads/d48.head 1
     check 'an unknown option' misused 'release [--write] HEAD ID' release --force $heads/d48.head 1
     check '--help behind a command' writes 0 book --help <<<'usage: rikkovan book [--write] HEAD ID CYCLES PERIOD'
     check 'a name that begins with -' in_work_folder ends_with 0 check -- -x
@@ -310,7 +329,7 @@ test_output() {
     local command
     for command in --help --version "check $plans/default.plan" "load $tasks/two.tasks" "read $heads/d48.head" \
         "change $heads/d48.head $plans/default.plan" "book $heads/d48.head 1 1 1" "release $heads/s240-tasks.head 1" \
-        "lpsys $heads/d48.head 24"; do
+        "look-up $heads/s240-tasks.head 1" "lpsys $heads/d48.head 24"; do
         # shellcheck disable=SC2086
         check "a full disk under ${command%% *}" full_output $command
     done
