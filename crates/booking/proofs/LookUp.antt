@@ -9,7 +9,7 @@ use borrow.Author.Tests.{ne-eqb}
 use lib.ListN.{length, length-append}
 use lib.Seq.{getD-at}
 use Rattle.record.specs.Bytes.{Bytes}
-use Rattle.record.specs.Refusals.{refuse}
+use Rattle.record.specs.Refusals.{refuse, firstOf}
 use Rattle.record.proofs.Refusals.{only-test, first-passes}
 use Rattle.task.specs.declared.Task.{Task}
 use Rattle.task.specs.declared.look_up.LookUp.the-variants.{Hit, Miss}
@@ -28,7 +28,7 @@ use Rattle.booking.specs.tests.{bookTests}
 use Rattle.booking.specs.Booking.{book}
 use Rattle.booking.specs.Release.{releaseTests, release}
 use Rattle.booking.specs.LookUp.{lookUpCall}
-use Rattle.booking.proofs.tests.Laws.{in-use}
+use Rattle.booking.proofs.tests.Laws.{in-use, not-in-use}
 use Rattle.booking.proofs.Laws.{book-tasks, book-distinct}
 use Rattle.booking.proofs.Released.{release-gone}
 
@@ -72,13 +72,20 @@ module _ (b : List ℕ) (bytes : Bytes b) (read : headRefusal b ≡ 0) where
       by true = refl
       by false = refl
 
+  -- the booking's own tests decide
+  tested : (t : Task) → book t b .refusal ≡ firstOf (bookTests t (headOf b))
+  unfolding book
+  tested t =
+      let tests = bookTests t (headOf b) in
+      refusal-first tests (withTask t) b ∙ first-passes (headTests b) tests (only-test (headRefusal b) ∙ read)
+
   -- a booking is 40 where the look-up hits
   pub not-booked : (t : Task) → taskOk t ≡ true → isHit (lookUp (t .id) (booked (headOf b))) ≡ true → book t b .refusal ≡ 40
-  unfolding book
-  not-booked t right hit =
-      let tests = bookTests t (headOf b) in
-      refusal-first tests (withTask t) b
-      ∙ (first-passes (headTests b) tests (only-test (headRefusal b) ∙ read) ∙ in-use t (headOf b) right (sym (hit-in-use (t .id) (booked (headOf b))) ∙ hit))
+  not-booked t right hit = tested t ∙ in-use t (headOf b) right (sym (hit-in-use (t .id) (booked (headOf b))) ∙ hit)
+
+  -- and not where it misses
+  pub not-40 : (t : Task) → isHit (lookUp (t .id) (booked (headOf b))) ≡ false → book t b .refusal ≡ 40 → ⊥
+  not-40 t miss = rw (tested t) (not-in-use t (headOf b) (sym (hit-in-use (t .id) (booked (headOf b))) ∙ miss))
 
 -- a booked task goes last: all tasks are read, and the last has the id
 pub booked-last : (t : Task) (b : List ℕ) → Bytes b → InBytes t → book t b .refusal ≡ 0 → lookUp (t .id) (booked (headOf (book t b .buffer))) ≡ Hit (suc (length (booked (headOf b))))
