@@ -757,7 +757,7 @@ static inline enum rikkovan_unfit rikkovan_unfit(const uint64_t fit[RIKKOVAN_FIT
  *
  *   1 to 34   a register, and what it holds after the store, as RIKKOVAN_VALUE has it
  *   48        a delay, and its length in core cycles: microseconds times the HCLK of that moment
- *             in Hz, divided by 1,000,000, rounded down
+ *             in Hz, divided by 1,000,000, rounded up, so that it is never short
  *   49        a wait that ended, and its kind * 65,536 + the number of answers that it took
  *
  * A store that does not change the register has its entry all the same.

@@ -51,6 +51,7 @@ fn exported(query: Query<'static>) -> Side {
             bytes: &mut bytes,
             clocks: &mut clocks,
             journal: &mut journal,
+            delays: &mut Vec::new(),
         };
         let word = call(black_box(&query), lent);
         assert_eq!(word >> 63, 0, "a call that is measured is done");

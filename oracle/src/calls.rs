@@ -53,6 +53,7 @@ const ON_PLAN: Call = Call {
     is_lent_answers: false,
     refusals: &[0, 1, 2, 3, 4, 5, 6, 7, 8, 9, 10, 11, 12, 13, 14],
     values: &[],
+    delays: &[],
     wanted: |query, _| match plan::check(query.plan) {
         0 => 0,
         refusal => REFUSED | refusal,
@@ -141,6 +142,7 @@ pub static CALLS: [Call; 23] = [
         function: "config_lpsys_hclk_mhz",
         arguments: &[MHZ],
         refusals: &[0, 1, 2, 3, 15, 17, 34],
+        delays: &[250],
         wanted: |query, lent| {
             run(query, lent, |head| {
                 call::config_lpsys_hclk_mhz(head, query.arguments[0])
@@ -161,6 +163,7 @@ pub static CALLS: [Call; 23] = [
         name: "wake",
         function: "wake_lcpu",
         refusals: &[0, 1, 2, 3, 17, 18, 34, 36],
+        delays: &[230, 30],
         wanted: |query, lent| run(query, lent, |head| call::wake_lcpu(head, query.answers)),
         ..WITH_ANSWERS
     },
@@ -247,6 +250,7 @@ pub static CALLS: [Call; 23] = [
         name: "calibrate",
         function: "calibrate_hrc48",
         refusals: &[0, 1, 2, 3, 17, 18, 31, 33, 34, 36],
+        delays: &[3],
         wanted: |query, lent| {
             run(query, lent, |head| {
                 call::calibrate_hrc48(head, query.answers)
@@ -263,6 +267,7 @@ pub static CALLS: [Call; 23] = [
             0, 1, 2, 3, 4, 5, 6, 7, 8, 9, 10, 11, 12, 13, 14, 17, 18, 32, 34, 35, 36,
         ],
         values: &[0, 31, 33],
+        delays: &[3, 10, 250],
         wanted: |query, lent| {
             lent.clocks.fill(0);
             try_run(query, lent, |head| {
@@ -280,6 +285,7 @@ pub static CALLS: [Call; 23] = [
         refusals: &[
             0, 1, 2, 3, 4, 5, 6, 7, 8, 9, 10, 11, 12, 13, 14, 17, 18, 34, 35, 36,
         ],
+        delays: &[10, 250],
         wanted: |query, lent| {
             try_run(query, lent, |head| {
                 let plan = plan::decode(query.plan)?;
@@ -339,6 +345,7 @@ pub static CALLS: [Call; 23] = [
         name: "change",
         function: "change",
         refusals: &change::ANSWERS,
+        delays: &[10, 250],
         wanted: |query, lent| {
             try_run(query, lent, |head| {
                 change::change(head, query.plan, query.answers)

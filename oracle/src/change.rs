@@ -3,6 +3,7 @@
 //! the supply rows.
 
 use crate::call::Outcome;
+use crate::delay::Delay;
 use crate::head::{Head, Registers};
 use crate::plan::{self, at};
 use crate::pmu::dvfs::{HPSYS_DVFS_CONFIG, HpsysDvfsMode};
@@ -53,6 +54,7 @@ pub fn change(head: &Head, plan: &[u8], answers: &[u16]) -> Result<Outcome, u64>
     let mut running = Running {
         head: head.clone(),
         entries: Vec::new(),
+        delays: Vec::new(),
         answers,
         taken: 0,
     };
@@ -62,6 +64,7 @@ pub fn change(head: &Head, plan: &[u8], answers: &[u16]) -> Result<Outcome, u64>
         value: 0,
         clocks: [0; 15],
         entries: running.entries,
+        delays: running.delays,
         head: running.head,
         taken: running.taken,
     })
@@ -161,6 +164,7 @@ fn flash_selects(registers: &Registers) -> [u32; 2] {
 struct Running<'a> {
     head: Head,
     entries: Vec<u32>,
+    delays: Vec<Delay>,
     answers: &'a [u16],
     taken: usize,
 }
@@ -242,11 +246,18 @@ impl Running<'_> {
         self.entries.push(entry(number as u32, value));
     }
 
-    /// So many cycles of the HCLK that reads.
-    fn delay(&mut self, us: u64) -> Result<(), u64> {
+    /// So many microseconds of the HCLK that reads.
+    fn delay(&mut self, us: u32) -> Result<(), u64> {
         let hclk = readings::hclk(&self.head).ok_or(34u64)?;
-        let cycles = u64::from(hclk) * us / 1_000_000;
-        self.entries.push(entry(DELAY, cycles as u32));
+        let cycles = u64::from(hclk) * u64::from(us) / 1_000_000;
+        let delay = Delay {
+            place: self.entries.len(),
+            us,
+            hclk,
+            original: entry(DELAY, cycles as u32),
+        };
+        self.entries.push(delay.wanted());
+        self.delays.push(delay);
         Ok(())
     }
 

@@ -57,7 +57,8 @@ pub fn run(extent: Extent) -> Report {
         let bytes = any_past(random, &head);
         random_change(tally, random, &bytes, &plan);
     });
-    groups.finish(call(Id::Change).refusals)
+    let call = call(Id::Change);
+    groups.finish(call.refusals).with_delays(call.delays)
 }
 
 /// A change, and demand 3 of what it left.

@@ -62,7 +62,7 @@ fn groups(call: &'static Call, extent: Extent) -> Report {
         let head = head(random, &plan);
         random_call(tally, random, call, &head, &plan);
     });
-    groups.finish(call.refusals)
+    groups.finish(call.refusals).with_delays(call.delays)
 }
 
 /// A call with a journal of the usual length.

@@ -21,6 +21,32 @@ pub fn run(groups: &mut Groups, call: &'static Call, quick: bool) {
         dlls_and_selects(tally, call, quick)
     });
     groups.group("every DLL2", |tally| every_dll2(tally, call, quick));
+    groups.group("delays", |tally| delays(tally, call));
+}
+
+/// Delays of whole cycles and of parts of one: `init` stores the plan's hdiv before them, and
+/// from 48 MHz over 7 only the fastest DLL1 still leads to supply S.
+fn delays(tally: &mut Tally, call: &'static Call) {
+    let [ready, ..] = few_lists();
+    let plan = |stage, hdiv| {
+        let mut plan = default_with(&[(field::USB, 0), (field::HDIV, hdiv)]);
+        put_dll(&mut plan, field::DLL1, [1, stage, 0]);
+        plan
+    };
+    let plans = (1..=8).flat_map(|hdiv| [9, 14, 15].map(|stage| plan(stage, hdiv)));
+    let plans: Vec<_> = plans.collect();
+    for dll1 in dlls(&STAGES) {
+        for core in [0, 1, 3] {
+            for hdiv in [1, 7, 255] {
+                let changes = [(at::c(1), core), (at::a(2), hdiv)];
+                let mut head = with(buffer(&busy(), 0), &changes);
+                put_register(&mut head, 3, dll1);
+                for plan in &plans {
+                    on(tally, call, &head, plan, &ready);
+                }
+            }
+        }
+    }
 }
 
 /// Some plans with each byte at all values.

@@ -40,7 +40,7 @@ fn groups(call: &'static Call, extent: Extent) -> Report {
         let head = head(random);
         random_call(tally, random, call, &head);
     });
-    groups.finish(call.refusals)
+    groups.finish(call.refusals).with_delays(call.delays)
 }
 
 /// A call on a head with a journal of the usual length.

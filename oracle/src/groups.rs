@@ -2,8 +2,9 @@
 
 use crate::compare::Extent;
 use crate::progress;
-use crate::tally::Tally;
+use crate::tally::{Delays, Tally};
 use sifli::random::Random;
+use std::collections::BTreeMap;
 use std::time::{Duration, Instant};
 
 /// The groups of one call: each is compared, printed and added.
@@ -19,7 +20,7 @@ pub struct Report {
     rule: &'static str,
     pub systematic: Tally,
     pub random: Tally,
-    /// Answers that the call can give, and values, that never came.
+    /// Answers that the call can give, values, and microseconds of delays that never came.
     pub missing: Vec<usize>,
 }
 
@@ -126,12 +127,53 @@ impl Report {
         }
         self
     }
+
+    /// The same with a look at whether delays of so many microseconds came, some with the
+    /// original's cycles and some a cycle longer.
+    pub fn with_delays(mut self, microseconds: &[u32]) -> Self {
+        let delays = self.delays();
+        for us in microseconds {
+            let Delays { same, longer } = delays.get(us).copied().unwrap_or_default();
+            if same == 0 || longer == 0 {
+                let counts = format!("{same} as the original's and {longer} a cycle longer");
+                println!("  differs: {} had of {us} us {counts}", self.call);
+                self.missing.push(*us as usize);
+            }
+        }
+        self
+    }
+
+    /// The delays of all groups, by their microseconds.
+    fn delays(&self) -> BTreeMap<u32, Delays> {
+        let mut sum = Tally::new(String::new());
+        sum.add(&self.systematic);
+        sum.add(&self.random);
+        sum.delays
+    }
 }
 
-/// Prints a table of the systematic groups, and one of the random ones.
+/// Prints a table of the systematic groups, one of the random ones, and one of the delays in both.
 pub fn print_tables(reports: &[Report]) {
     print_table("Systematic groups", reports, |report| &report.systematic);
     print_table("Random groups", reports, |report| &report.random);
+    if reports.iter().any(|report| !report.delays().is_empty()) {
+        print_delays(reports);
+    }
+}
+
+fn print_delays(reports: &[Report]) {
+    println!("\n## Delays\n");
+    println!(
+        "Held to document 02: \"The cycles are now rounded up.\" All other entries are held as above.\n"
+    );
+    println!("| call | us | entries | of them as the Rust's | a cycle longer |");
+    println!("|---|---|---|---|---|");
+    for report in reports {
+        for (us, Delays { same, longer }) in report.delays() {
+            let [all, same, longer] = [same + longer, same, longer].map(grouped);
+            println!("| {} | {us} | {all} | {same} | {longer} |", report.call);
+        }
+    }
 }
 
 fn print_table(title: &str, reports: &[Report], pick: impl Fn(&Report) -> &Tally) {

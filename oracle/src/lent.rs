@@ -1,6 +1,7 @@
 //! The memory that is lent to a call, and what a call leaves in it.
 
 use crate::call::Outcome;
+use crate::delay::Delay;
 use crate::head::{BUFFER, Head};
 use std::fmt::Write;
 
@@ -16,6 +17,8 @@ pub struct Lent<'a> {
     pub bytes: &'a mut [u8],
     pub clocks: &'a mut [u32],
     pub journal: &'a mut [u32],
+    /// For the delays that a model made; the library tells of none.
+    pub delays: &'a mut Vec<Delay>,
 }
 
 impl Lent<'_> {
@@ -31,6 +34,7 @@ impl Lent<'_> {
             *clocks = outcome.clocks;
         }
         encode(&outcome.head, self.bytes);
+        *self.delays = outcome.delays;
         let counts = (entries as u64) << 32 | (outcome.taken as u64) << 48;
         match outcome.answer {
             0 => counts | u64::from(outcome.value),
@@ -78,12 +82,24 @@ fn encode(head: &Head, bytes: &mut [u8]) {
 }
 
 /// What a call leaves: its answer word, and what was lent to it between fences.
-#[derive(Clone, PartialEq, Eq, Debug)]
+#[derive(Clone, Debug)]
 pub struct Left {
     pub word: u64,
     bytes: Vec<u8>,
     clocks: Vec<u32>,
     journal: Vec<u32>,
+    /// The delays that a model made.
+    pub delays: Vec<Delay>,
+}
+
+/// Word and memory: what a model tells of its delays stands beside them.
+impl PartialEq for Left {
+    fn eq(&self, other: &Self) -> bool {
+        self.word == other.word
+            && self.bytes == other.bytes
+            && self.clocks == other.clocks
+            && self.journal == other.journal
+    }
 }
 
 impl Left {
@@ -108,11 +124,13 @@ impl Left {
                     .map(|index| 0xA5A5_0000 ^ index)
                     .collect()
             }),
+            delays: Vec::new(),
         };
         left.word = call(Lent {
             bytes: lent_mut(&mut left.bytes),
             clocks: lent_mut(&mut left.clocks),
             journal: lent_mut(&mut left.journal),
+            delays: &mut left.delays,
         });
         left
     }

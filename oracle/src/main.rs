@@ -39,6 +39,7 @@ mod tally;
 mod task_inputs;
 
 use compare::Extent;
+use sifli::delay::Delay;
 use sifli::query::Owned;
 use std::env;
 use std::path::Path;
@@ -53,14 +54,15 @@ usage: oracle compare [--quick] [--count N] [--seconds N] [--seed N|random]
        oracle bench
 
 compare  every call of librikkovan.a against the original code, or against
-         documents 01 and 02 where that has not the call; exit status 1 on a
-         difference, an answer that never came, or a broken clause of demand 3.
+         documents 01 and 02 where that has not the call; delays by document 02's
+         rule, rounded up. Exit status 1 on a difference, an answer or a delay that
+         never came, or a broken clause of demand 3.
          --quick: a bounded part. --count N: N queries of each random group.
          --seconds N: each random group goes on for N seconds at least. --seed: what
          the random groups are drawn from. --only PART: plan, heads, lpsys, config,
          tasks or change; may be given several times. --table: only the tables.
-query    one query by both sides. LINE is one that compare printed, or a line that
-         record wrote.
+query    one query by both sides, and the delays that the original rounds down. LINE
+         is one that compare printed, or a line that record wrote.
 record   writes DIR/NAME.txt for each call: what it is given, in hex, and the answers
          to it.
 bench    nanoseconds per call of librikkovan.a, beside the original and the models.";
@@ -129,6 +131,12 @@ fn query(line: &str) -> ExitCode {
     if ours != wanted {
         println!("wanted where it differs   {}", ours.beside(&wanted));
         println!("rikkovan where it differs {}", wanted.beside(&ours));
+    }
+    for delay in wanted.delays.iter().filter(|delay| delay.is_longer()) {
+        let Delay {
+            place, original, ..
+        } = delay;
+        println!("the Rust  journal[{place}] {original:08X}, rounded down");
     }
     status(ours == wanted)
 }

@@ -58,6 +58,8 @@ pub struct Call {
     pub refusals: &'static [usize],
     /// The values of a done call that has few.
     pub values: &'static [usize],
+    /// The microseconds of its delays.
+    pub delays: &'static [u32],
     /// What it answers and leaves: by the original code where that has the call,
     /// else by document 01.
     pub wanted: Side,

@@ -27,6 +27,7 @@ pub mod calls;
 pub mod caught;
 pub mod change;
 pub mod claim;
+pub mod delay;
 pub mod head;
 pub mod hex;
 pub mod lent;
@@ -55,11 +56,12 @@ pub fn with<T>(f: impl FnOnce(()) -> T) -> T {
     f(())
 }
 
-/// As in lib.rs.
+/// As in lib.rs, which rounds down; what was asked for is kept beside it.
 pub fn cortex_m_blocking_delay_us(us: u32) {
     let freq = rcc::get_hclk_freq().unwrap().0 as u64;
     let cycles = freq * us as u64 / 1_000_000;
     cortex_m::asm::delay(cycles as u32);
+    world::keep_delay(us, freq as u32);
 }
 
 /// Stand-in for the crate cortex-m.

@@ -3,10 +3,11 @@
 use crate::ours::{differs, ours};
 use crate::progress;
 use sifli::claim::Broken;
+use sifli::delay::Delay;
 use sifli::lent::Left;
 use sifli::query::Query;
 use sifli::shrink::shrink;
-use std::collections::HashSet;
+use std::collections::{BTreeMap, HashSet};
 
 /// Differing queries printed per group.
 const SHOWN: u64 = 5;
@@ -20,6 +21,33 @@ const VALUES: usize = 34;
 /// Queries between two looks at the clock.
 const QUERIES: u64 = 1024;
 
+/// Counts of delays.
+#[derive(Clone, Copy, Default)]
+pub struct Delays {
+    /// Those whose entry is the original's.
+    pub same: u64,
+    /// Those whose entry is a cycle longer.
+    pub longer: u64,
+}
+
+impl Delays {
+    /// # Panics
+    ///
+    /// Panics for an entry that is neither.
+    fn count(&mut self, delay: &Delay) {
+        match delay.wanted() - delay.original {
+            0 => self.same += 1,
+            1 => self.longer += 1,
+            more => panic!("{more} cycles more than the original: {delay:?}"),
+        }
+    }
+
+    fn add(&mut self, other: Delays) {
+        self.same += other.same;
+        self.longer += other.longer;
+    }
+}
+
 /// Counts of a group or of several.
 pub struct Tally {
     pub name: String,
@@ -31,6 +59,8 @@ pub struct Tally {
     pub entries: usize,
     /// How often each value of a call that has few was the wanted one.
     pub values: [u64; VALUES],
+    /// The wanted delays, by their microseconds.
+    pub delays: BTreeMap<u32, Delays>,
     /// Moments of which demand 3 was asked, and calls that broke a clause of it.
     pub moments: u64,
     pub broken: u64,
@@ -47,6 +77,7 @@ impl Tally {
             answers: [0; ANSWERS],
             entries: 0,
             values: [0; VALUES],
+            delays: BTreeMap::new(),
             moments: 0,
             broken: 0,
             shown: HashSet::new(),
@@ -72,6 +103,9 @@ impl Tally {
         self.entries = self.entries.max(wanted.entries().len());
         if !query.call.values.is_empty() && wanted.refusal() == 0 {
             self.values[wanted.value() as usize] += 1;
+        }
+        for delay in &wanted.delays {
+            self.delays.entry(delay.us).or_default().count(delay);
         }
         let is_alike = ours == wanted;
         if !is_alike {
@@ -150,6 +184,9 @@ impl Tally {
         }
         for (sum, count) in self.values.iter_mut().zip(other.values) {
             *sum += count;
+        }
+        for (&us, &delays) in &other.delays {
+            self.delays.entry(us).or_default().add(delays);
         }
     }
 }

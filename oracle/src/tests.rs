@@ -2,6 +2,7 @@
 
 mod calibration;
 mod change;
+mod delay;
 mod fit;
 mod init;
 mod lpsys;

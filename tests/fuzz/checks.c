@@ -120,6 +120,18 @@ static void check_journal(const struct made *made)
            "not the answers that the waits took");
 }
 
+/* Whether a delay has the cycles of some microseconds at an HCLK, rounded up. */
+static int is_never_short(uint32_t cycles, uint32_t hclk)
+{
+    static const uint32_t microseconds[] = {3, 10, 30, 230, 250};
+    size_t k;
+
+    for (k = 0; k < sizeof microseconds / sizeof microseconds[0]; k++)
+        if (cycles == ((uint64_t)hclk * microseconds[k] + 999999) / 1000000)
+            return 1;
+    return 0;
+}
+
 /* What an entry does to a head: a store to its register, a wait for HXT48 to its ready flag. */
 static void put_entry(uint8_t *head, uint32_t entry)
 {
@@ -180,8 +192,12 @@ static void check_head(const struct made *made)
         return;
     }
     memcpy(head, made->given->at[HEAD], sizeof head);
-    for (k = 0; k < made->entries; k++)
+    for (k = 0; k < made->entries; k++) {
+        if (rikkovan_is_delay(journal[k]))
+            expect(made, is_never_short(rikkovan_entry_value(journal[k]), model_hclk(head)),
+                   "not the cycles of a delay");
         put_entry(head, journal[k]);
+    }
     if (made->refusal == 0)
         put_done(made, head);
     expect(made, memcmp(head, made->left->at[HEAD], sizeof head) == 0,

@@ -83,6 +83,15 @@ static void jumps_to_the_clock(struct changed *changed)
     changed->journal[0] = entry;
 }
 
+static void waits_a_cycle_less(struct changed *changed)
+{
+    uint32_t k;
+
+    for (k = 0; k < rikkovan_entries(changed->answer); k++)
+        if (rikkovan_is_delay(changed->journal[k]))
+            changed->journal[k]--;
+}
+
 #define FAULT(name) {#name, name}
 static const struct {
     const char *name;
@@ -98,6 +107,7 @@ static const struct {
     FAULT(takes_another_refusal),
     FAULT(remembers_the_last_call),
     FAULT(jumps_to_the_clock),
+    FAULT(waits_a_cycle_less),
 };
 
 uint64_t __real_rikkovan_change(uint8_t *head, uint64_t head_len, const uint8_t *plan,

@@ -158,9 +158,9 @@ says_unfit() { # FILE WORDS
         last_line 1 "$1: refused 37: $(words 37): $2" change "$1" $plans/default.plan
 }
 
-# The delay of a slow core is shorter than what was asked for, by less than a cycle.
+# The delay of a slow core is longer than what was asked for, by less than a cycle.
 shows_a_slow_delay() {
-    ends_with 0 lpsys "$work/slow" 48 && grep -q '^3   delay 47 cycles, 249\.687 us  ' "$work/written"
+    ends_with 0 lpsys "$work/slow" 48 && grep -q '^3   delay 48 cycles, 255\.000 us  ' "$work/written"
 }
 
 # On a head with the tasks 1 and 2: the status is that of a release, and no task is read behind a hit.

@@ -45,7 +45,7 @@ pub enum Entry {
     },
     /// A delay.
     Delay {
-        /// Its length in core cycles.
+        /// Its length in core cycles, rounded up, so that it is never short.
         cycles: u32,
     },
     /// A wait that ended.

@@ -95,6 +95,14 @@ delay-case : delay 250 (begin at240) ≡ record { entries = entry 48 60000 ∷ [
 unfolding delay unlessEnded blank hclkOf sysOf dllReading dllHz divided
 delay-case = refl
 
+-- document 02: "a core at 188,235 Hz waits 0 cycles for 3 us. The cycles are now rounded up.": HXT48 divided by 255
+abbrev pub at188235 : Head
+at188235 = withReady true true false (withRegisters (set (set (replicate 35 0) 1 1) 2 16711680) blank)
+
+slow-delay-case : delay 3 (begin at188235) ≡ record { entries = entry 48 1 ∷ []; head = at188235; taken = 0; stop = 0 }
+unfolding delay unlessEnded blank hclkOf sysOf dllReading divided
+slow-delay-case = refl
+
 -- "LPSYS 48, 25, 24, 7, 1 give dividers 0, 1, 2, 6, 48.": whatever the head, since its source gives 48 MHz or does not read
 lpsys-cases : (h : Head) →
     (dividerFor 48 h ≡ 0)

@@ -1,4 +1,5 @@
 pub mod Cases
+pub mod Delays
 pub mod Rails
 pub mod Fit
 pub mod Orders

@@ -62,9 +62,10 @@ withHead h r = record { entries = r .entries; head = h; taken = r .taken; stop =
 unfoldable pub store : ℕ → ℕ → Effect
 store n v = unlessEnded (λ (r : Run). withEntry (entry n v) (withHead (stored (r .head) n v) r))
 
--- a delay in cycles of the core, rounded down, lib.rs `cortex_m_blocking_delay_us`: "Number 48 is a delay, its value the cycles"
+-- the cycles of a delay, "Number 48 is a delay, its value the cycles of `cortex_m_blocking_delay_us`"; lib.rs rounds them down, document 02:
+-- "The cycles are now rounded up."
 abbrev pub cycles : ℕ → ℕ → ℕ
-cycles hz us = hz * us / 1000000
+cycles hz us = (hz * us + 999999) / 1000000
 
 -- "34 HCLK unreadable at a delay"
 abbrev pub delayed : Reading → ℕ → Effect

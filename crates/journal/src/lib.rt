@@ -83,13 +83,13 @@ impl Machine {
     }
 }
 
-// The cycles of a delay, rounded down.
+// The cycles of a delay, rounded up, so that it is never short.
 fn cycles(f: Hertz, us: u32) -> u32
     requires { ⌜ (f .0 ≤ 384000000) × (us ≤ 1000) ⌝ }
     ensures { λ r. ⌜ (r ≡ cyclesOf (f .0) us) × (r ≤ 384000) ⌝ }
 {
     let hertz = f.0;
-    ((hertz as u64) * (us as u64) / 1_000_000) as u32
+    (((hertz as u64) * (us as u64) + 999_999) / 1_000_000) as u32
 }
 
 // lib.rs `cortex_m_blocking_delay_us`: writes the delay's cycles, or ends the call with 34 where HCLK does not read.

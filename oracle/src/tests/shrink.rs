@@ -40,6 +40,7 @@ fn wrong_request(query: &Query, lent: Lent) -> u64 {
         bytes: &mut *buffer,
         clocks: lent.clocks,
         journal: lent.journal,
+        delays: lent.delays,
     };
     let word = (query.call.wanted)(query, rest);
     if query.arguments[0] > 30 && query.bytes[at::c(28)] == 1 {

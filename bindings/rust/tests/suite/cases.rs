@@ -1,4 +1,4 @@
-//! The worked cases of document 01, those with a star.
+//! The worked cases of document 01, those with a star, and of document 02.
 
 use crate::{changed, head, plan, stores, waits};
 use rikkovan::rcc::{Dll, DllStage, PclkPrescaler};
@@ -108,6 +108,20 @@ fn a_delay_of_250_us_at_240_mhz() {
     }
     let delay = Entry::Delay { cycles: 60_000 };
     assert!(journal.iter().any(|entry| entry == delay));
+}
+
+#[test]
+fn delays_of_230_and_30_us_at_188_235_hz() {
+    let (mut head, mut journal) = (head("s240"), Journal::new());
+    for (register, value) in [(Register::Sysclk, 1), (Register::HpsysCfgr, 0xFF0000)] {
+        head.set_register(register, value).expect("within its codes");
+    }
+    assert_eq!(head.clocks().hclk, Some(Hertz(188_235)));
+    head.wake_lcpu(&mut journal, &[1, 1]).expect("done");
+    for cycles in [44, 6] {
+        let delay = Entry::Delay { cycles };
+        assert!(journal.iter().any(|entry| entry == delay));
+    }
 }
 
 #[test]

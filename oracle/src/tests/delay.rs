@@ -1,0 +1,199 @@
+use super::{at_48_mhz, at_240_mhz, entries};
+use crate::call::{self, Outcome};
+use crate::calls::CALLS;
+use crate::change::change;
+use crate::delay::Delay;
+use crate::head::{BUFFER, Head};
+use crate::lent::Lent;
+use crate::plan::{self, DEFAULT, at as field};
+use crate::query::{Query, Side};
+use crate::readings;
+use crate::world::{DELAY, entry};
+
+/// The microseconds of all delays.
+const MICROSECONDS: [u32; 5] = [3, 10, 30, 230, 250];
+
+fn cycles(hclk: u32, us: u32) -> u32 {
+    let delay = Delay {
+        place: 0,
+        us,
+        hclk,
+        original: 0,
+    };
+    delay.wanted() - entry(DELAY, 0)
+}
+
+/// A head with its core at 188,235 Hz: 48 MHz over 255.
+fn slow() -> Head {
+    let mut head = at_48_mhz();
+    head.registers[2] = 0xFF0000;
+    assert_eq!(readings::hclk(&head), Some(188_235));
+    head
+}
+
+/// The cycles of each delay, and what the original has.
+fn delays(outcome: &Outcome) -> Vec<(u32, u32)> {
+    let value = |entry: u32| entry & 0xFF_FFFF;
+    let both = |delay: &Delay| (value(outcome.entries[delay.place]), value(delay.original));
+    outcome.delays.iter().map(both).collect()
+}
+
+#[test]
+fn cases_of_the_papers() {
+    assert_eq!(cycles(188_235, 3), 1);
+    assert_eq!(cycles(240_000_000, 250), 60_000);
+}
+
+/// Every HCLK of every source and divider: no delay is short, and none has a cycle to spare.
+#[test]
+fn never_short() {
+    let dlls = (1..=16).flat_map(|stage| [24_000_000 * stage, 12_000_000 * stage]);
+    for source in dlls.chain([48_000_000]) {
+        for hdiv in 1..=255 {
+            for us in MICROSECONDS {
+                let hclk = source / hdiv;
+                let (asked, cycles) = (u64::from(hclk) * u64::from(us), cycles(hclk, us));
+                assert!(u64::from(cycles) * 1_000_000 >= asked, "{us} us at {hclk}");
+                assert!(
+                    u64::from(cycles - 1) * 1_000_000 < asked,
+                    "{us} us at {hclk}"
+                );
+            }
+        }
+    }
+}
+
+/// "This goes through calibration, DLL setting, both supply changes and the LPSYS wake."
+#[test]
+fn at_every_place() {
+    let outcome = call::calibrate_hrc48(&slow(), &[1, 0, 0]);
+    assert_eq!(delays(&outcome), [(1, 0)]);
+    let outcome = call::wake_lcpu(&slow(), &[1, 1]);
+    assert_eq!(delays(&outcome), [(44, 43), (6, 5)]);
+    let mut head = slow();
+    head.registers[26] = 0x020000;
+    let outcome = call::config_lpsys_hclk_mhz(&head, 48);
+    assert_eq!(delays(&outcome), [(48, 47)]);
+    // Supply D to S, and DLL1.
+    let plan = plan::decode(&DEFAULT).expect("the default plan");
+    let outcome = call::reconfigure_sysclk(&slow(), &plan, &[0; 15], &[1]);
+    assert_eq!(delays(&outcome), [(48, 47), (2, 1)]);
+    let mut fit = slow();
+    (
+        fit.registers[12],
+        fit.registers[15],
+        fit.registers[16],
+        fit.registers[28],
+    ) = (1, 10, 8, 1);
+    let outcome = change(&fit, &DEFAULT, &[1]).expect("a change that no test refuses");
+    assert_eq!(delays(&outcome), [(48, 47), (2, 1)]);
+}
+
+/// The entries of delays alone are not the original's.
+#[test]
+fn all_other_entries_are_the_originals() {
+    let outcome = call::wake_lcpu(&slow(), &[1, 1]);
+    let expected = [(33, 1), (48, 44), (49, 0x060001), (48, 6), (49, 0x060001)];
+    assert_eq!(outcome.entries, entries(&expected));
+    let outcome = call::wake_lcpu(&at_240_mhz(), &[1, 1]);
+    assert_eq!(delays(&outcome), [(55_200, 55_200), (7_200, 7_200)]);
+}
+
+/// What is wanted, but for the delays of so many microseconds.
+fn with_delays(query: &Query, lent: Lent, us: u32, other: impl Fn(&Delay) -> u32) -> u64 {
+    let Lent {
+        journal, delays, ..
+    } = lent;
+    let rest = Lent {
+        journal: &mut *journal,
+        delays: &mut *delays,
+        ..lent
+    };
+    let word = (query.call.wanted)(query, rest);
+    for delay in delays.iter().filter(|delay| delay.us == us) {
+        journal[delay.place] = other(delay);
+    }
+    word
+}
+
+/// A side that rounds the delays of so many microseconds down.
+fn rounds_down<const US: u32>(query: &Query, lent: Lent) -> u64 {
+    with_delays(query, lent, US, |delay| delay.original)
+}
+
+/// A side that adds a cycle to them, also where the division is exact.
+fn adds_a_cycle<const US: u32>(query: &Query, lent: Lent) -> u64 {
+    with_delays(query, lent, US, |delay| delay.original + 1)
+}
+
+/// The calls that have delays.
+fn with_delays_on<'a>(head: &'a [u8], plan: &'a [u8]) -> impl Iterator<Item = Query<'a>> {
+    let calls = CALLS.iter().filter(|call| !call.delays.is_empty());
+    calls.map(move |call| Query {
+        arguments: [48, 0, 0],
+        plan,
+        answers: &[1, 0, 0, 1, 1],
+        ..Query::on(call, head)
+    })
+}
+
+/// A head on which each of them has all its delays: fit, on supply D, LPSYS at 24 MHz.
+fn bytes_of(mut head: Head) -> [u8; BUFFER] {
+    (head.registers[12], head.registers[15], head.registers[16]) = (1, 10, 8);
+    head.registers[26] = 0x020000;
+    let mut bytes = [0; BUFFER];
+    head.encode(&mut bytes);
+    bytes
+}
+
+#[test]
+fn rounding_down_at_one_place_is_told() {
+    let sides: [(u32, Side); 5] = [
+        (3, rounds_down::<3>),
+        (10, rounds_down::<10>),
+        (30, rounds_down::<30>),
+        (230, rounds_down::<230>),
+        (250, rounds_down::<250>),
+    ];
+    // 384 MHz over 7, so that the delays of `init` are of 48 MHz over 7.
+    let mut plan = DEFAULT;
+    (plan[field::HDIV], plan[field::DLL1 + 1], plan[field::USB]) = (7, 15, 0);
+    for query in with_delays_on(&bytes_of(slow()), &plan) {
+        for (us, side) in sides {
+            let is_told = query.by(side) != query.wanted();
+            assert_eq!(is_told, query.call.delays.contains(&us), "{us} us: {query}");
+        }
+    }
+}
+
+#[test]
+fn a_cycle_too_many_is_told() {
+    let sides: [(u32, Side); 5] = [
+        (3, adds_a_cycle::<3>),
+        (10, adds_a_cycle::<10>),
+        (30, adds_a_cycle::<30>),
+        (230, adds_a_cycle::<230>),
+        (250, adds_a_cycle::<250>),
+    ];
+    for query in with_delays_on(&bytes_of(at_48_mhz()), &DEFAULT) {
+        for (us, side) in sides {
+            let is_told = query.by(side) != query.wanted();
+            assert_eq!(is_told, query.call.delays.contains(&us), "{us} us: {query}");
+        }
+    }
+}
+
+/// What docs/DIFFERENCES.md has: the least divider of 48 MHz at which a delay is not the original's.
+#[test]
+fn the_smallest_difference_from_the_original() {
+    let calibrated = |hdiv: u32| {
+        let mut head = at_48_mhz();
+        head.registers[2] = hdiv << 16;
+        call::calibrate_hrc48(&head, &[])
+    };
+    for hdiv in 0..5 {
+        assert!(!calibrated(hdiv).delays[0].is_longer());
+    }
+    assert_eq!(calibrated(5).answer, 36);
+    assert_eq!(delays(&calibrated(5)), [(29, 28)]);
+}
