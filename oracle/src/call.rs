@@ -1,7 +1,6 @@
 //! Every call of the original code, run on a head of document 01.
 
 use crate::caught::{Ended, caught};
-use crate::delay::{Delay, rounded_up};
 use crate::head::{self, Head};
 use crate::pac::lpsys_rcc::vals as lpsys;
 use crate::plan::Plan;
@@ -25,9 +24,7 @@ pub struct Outcome {
     pub value: u32,
     /// The clocks that `init` and `reconfigure_sysclk` give.
     pub clocks: Frequencies,
-    /// Those of its delays as document 02 wants them, the others as the original wrote them.
     pub entries: Vec<u32>,
-    pub delays: Vec<Delay>,
     pub head: Head,
     /// Answers taken.
     pub taken: usize,
@@ -190,8 +187,7 @@ fn run(head: &Head, answers: &[u16], original: impl FnOnce() -> Done) -> Outcome
         answer,
         value,
         clocks,
-        entries: rounded_up(world.journal, &world.delays),
-        delays: world.delays,
+        entries: world.journal,
         head: world.head,
         taken: world.taken,
     }
@@ -204,7 +200,6 @@ fn refused(head: &Head, answer: u64) -> Outcome {
         value: 0,
         clocks: [0; 15],
         entries: Vec::new(),
-        delays: Vec::new(),
         head: head.clone(),
         taken: 0,
     }

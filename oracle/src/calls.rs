@@ -2,6 +2,7 @@
 
 use crate::call::{self, Frequencies, Outcome};
 use crate::change;
+use crate::delay::kept;
 use crate::head::{self, Head, Task};
 use crate::lent::{Lent, REFUSED};
 use crate::moment;
@@ -407,7 +408,8 @@ fn run(query: &Query, lent: Lent, call: impl FnOnce(&Head) -> Outcome) -> u64 {
 fn try_run(query: &Query, lent: Lent, call: impl FnOnce(&Head) -> Result<Outcome, u64>) -> u64 {
     let answers = query.call.is_lent_answers.then_some(query.answers.len());
     let head = call::admit(query.bytes, Some(query.journal), answers);
-    lent.put(head.and_then(|head| call(&head)))
+    let (outcome, delays) = kept(|| head.and_then(|head| call(&head)));
+    lent.put(outcome, delays)
 }
 
 impl Query<'_> {

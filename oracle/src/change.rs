@@ -3,7 +3,7 @@
 //! the supply rows.
 
 use crate::call::Outcome;
-use crate::delay::Delay;
+use crate::delay::{self, Delay};
 use crate::head::{Head, Registers};
 use crate::plan::{self, at};
 use crate::pmu::dvfs::{HPSYS_DVFS_CONFIG, HpsysDvfsMode};
@@ -54,7 +54,6 @@ pub fn change(head: &Head, plan: &[u8], answers: &[u16]) -> Result<Outcome, u64>
     let mut running = Running {
         head: head.clone(),
         entries: Vec::new(),
-        delays: Vec::new(),
         answers,
         taken: 0,
     };
@@ -64,7 +63,6 @@ pub fn change(head: &Head, plan: &[u8], answers: &[u16]) -> Result<Outcome, u64>
         value: 0,
         clocks: [0; 15],
         entries: running.entries,
-        delays: running.delays,
         head: running.head,
         taken: running.taken,
     })
@@ -164,7 +162,6 @@ fn flash_selects(registers: &Registers) -> [u32; 2] {
 struct Running<'a> {
     head: Head,
     entries: Vec<u32>,
-    delays: Vec<Delay>,
     answers: &'a [u16],
     taken: usize,
 }
@@ -257,7 +254,7 @@ impl Running<'_> {
             original: entry(DELAY, cycles as u32),
         };
         self.entries.push(delay.wanted());
-        self.delays.push(delay);
+        delay::keep(|| delay);
         Ok(())
     }
 

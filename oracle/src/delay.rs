@@ -3,6 +3,7 @@
 //! still with the Rust".
 
 use crate::world::{DELAY, entry};
+use std::cell::RefCell;
 
 /// A delay that a call made.
 #[derive(Clone, Copy, PartialEq, Eq, Debug)]
@@ -13,7 +14,7 @@ pub struct Delay {
     pub us: u32,
     /// The HCLK that read then, in Hz.
     pub hclk: u32,
-    /// The entry by the original's rule.
+    /// Its entry by the original's rule.
     pub original: u32,
 }
 
@@ -30,10 +31,23 @@ impl Delay {
     }
 }
 
-/// The entries of a call with those that are wanted of its delays; the others stay.
-pub fn rounded_up(mut entries: Vec<u32>, delays: &[Delay]) -> Vec<u32> {
-    for delay in delays {
-        entries[delay.place] = delay.wanted();
-    }
-    entries
+thread_local! {
+    /// The delays of the call that runs; none where nobody asks for them.
+    static KEPT: RefCell<Option<Vec<Delay>>> = const { RefCell::new(None) };
+}
+
+/// Makes a call, and gives the delays that it made beside what it gives.
+pub fn kept<T>(call: impl FnOnce() -> T) -> (T, Vec<Delay>) {
+    KEPT.set(Some(Vec::new()));
+    let given = call();
+    (given, KEPT.take().unwrap_or_default())
+}
+
+/// Keeps a delay of the call that runs, where they are asked for.
+pub fn keep(delay: impl FnOnce() -> Delay) {
+    KEPT.with_borrow_mut(|kept| {
+        if let Some(delays) = kept {
+            delays.push(delay());
+        }
+    });
 }

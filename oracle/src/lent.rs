@@ -22,19 +22,22 @@ pub struct Lent<'a> {
 }
 
 impl Lent<'_> {
-    /// Writes what a call gave, and gives its answer word.
-    pub fn put(self, outcome: Result<Outcome, u64>) -> u64 {
+    /// Writes what a call gave, its delays as they are wanted, and gives its answer word.
+    pub fn put(self, outcome: Result<Outcome, u64>, delays: Vec<Delay>) -> u64 {
         let outcome = match outcome {
             Ok(outcome) => outcome,
             Err(refusal) => return REFUSED | refusal,
         };
         let entries = outcome.entries.len();
         self.journal[..entries].copy_from_slice(&outcome.entries);
+        for delay in &delays {
+            self.journal[delay.place] = delay.wanted();
+        }
+        *self.delays = delays;
         if let Ok(clocks) = <&mut [u32; 15]>::try_from(self.clocks) {
             *clocks = outcome.clocks;
         }
         encode(&outcome.head, self.bytes);
-        *self.delays = outcome.delays;
         let counts = (entries as u64) << 32 | (outcome.taken as u64) << 48;
         match outcome.answer {
             0 => counts | u64::from(outcome.value),

@@ -61,7 +61,16 @@ pub fn cortex_m_blocking_delay_us(us: u32) {
     let freq = rcc::get_hclk_freq().unwrap().0 as u64;
     let cycles = freq * us as u64 / 1_000_000;
     cortex_m::asm::delay(cycles as u32);
-    world::keep_delay(us, freq as u32);
+    delay::keep(|| {
+        let (place, original) = world::last_entry();
+        let hclk = freq as u32;
+        delay::Delay {
+            place,
+            us,
+            hclk,
+            original,
+        }
+    });
 }
 
 /// Stand-in for the crate cortex-m.

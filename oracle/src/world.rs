@@ -1,7 +1,6 @@
 //! What a running call sees and changes: a head, the journal it writes and the
 //! answers lent to it. The stand-in registers reach it through a thread-local.
 
-use crate::delay::Delay;
 use crate::head::{Head, Registers};
 use std::any::Any;
 use std::cell::RefCell;
@@ -35,7 +34,6 @@ pub struct World {
     pub head: Head,
     pub journal: Vec<u32>,
     pub taken: usize,
-    pub delays: Vec<Delay>,
     /// The text of the last `debug!` that reports a failed calibration.
     pub warning: Option<String>,
     answers: Vec<u16>,
@@ -73,7 +71,6 @@ pub fn restart(head: &Head, answers: &[u16]) {
         former.journal.clear();
         former.answers.clear();
         former.answers.extend_from_slice(answers);
-        former.delays.clear();
         *world = World {
             head: Head {
                 tasks: former.head.tasks,
@@ -81,7 +78,6 @@ pub fn restart(head: &Head, answers: &[u16]) {
             },
             journal: former.journal,
             answers: former.answers,
-            delays: former.delays,
             ..World::default()
         };
     });
@@ -116,18 +112,16 @@ pub fn delay(cycles: u32) {
     WORLD.with_borrow_mut(|world| world.journal.push(entry(DELAY, cycles)));
 }
 
-/// Keeps of the delay just made how long it was to last, and at which HCLK.
-pub fn keep_delay(us: u32, hclk: u32) {
-    WORLD.with_borrow_mut(|world| {
-        let entries = world.journal.iter().enumerate();
-        let (place, &original) = entries.last().expect("the entry of the delay");
-        world.delays.push(Delay {
-            place,
-            us,
-            hclk,
-            original,
-        });
-    });
+/// The place and the word of the last entry.
+///
+/// # Panics
+///
+/// Panics where none was written.
+pub fn last_entry() -> (usize, u32) {
+    WORLD.with_borrow(|world| {
+        let entries = world.journal.iter().copied().enumerate();
+        entries.last().expect("an entry")
+    })
 }
 
 /// One poll of a wait of kind 3 to 6.

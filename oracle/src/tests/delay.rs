@@ -1,12 +1,11 @@
-use super::{at_48_mhz, at_240_mhz, entries};
-use crate::call::{self, Outcome};
+use super::{at_48_mhz, entries};
+use crate::call;
 use crate::calls::CALLS;
-use crate::change::change;
 use crate::delay::Delay;
 use crate::head::{BUFFER, Head};
 use crate::lent::Lent;
-use crate::plan::{self, DEFAULT, at as field};
-use crate::query::{Query, Side};
+use crate::plan::{DEFAULT, at as field};
+use crate::query::{Id, Query, Side, call as call_of};
 use crate::readings;
 use crate::world::{DELAY, entry};
 
@@ -29,13 +28,6 @@ fn slow() -> Head {
     head.registers[2] = 0xFF0000;
     assert_eq!(readings::hclk(&head), Some(188_235));
     head
-}
-
-/// The cycles of each delay, and what the original has.
-fn delays(outcome: &Outcome) -> Vec<(u32, u32)> {
-    let value = |entry: u32| entry & 0xFF_FFFF;
-    let both = |delay: &Delay| (value(outcome.entries[delay.place]), value(delay.original));
-    outcome.delays.iter().map(both).collect()
 }
 
 #[test]
@@ -61,42 +53,6 @@ fn never_short() {
             }
         }
     }
-}
-
-/// "This goes through calibration, DLL setting, both supply changes and the LPSYS wake."
-#[test]
-fn at_every_place() {
-    let outcome = call::calibrate_hrc48(&slow(), &[1, 0, 0]);
-    assert_eq!(delays(&outcome), [(1, 0)]);
-    let outcome = call::wake_lcpu(&slow(), &[1, 1]);
-    assert_eq!(delays(&outcome), [(44, 43), (6, 5)]);
-    let mut head = slow();
-    head.registers[26] = 0x020000;
-    let outcome = call::config_lpsys_hclk_mhz(&head, 48);
-    assert_eq!(delays(&outcome), [(48, 47)]);
-    // Supply D to S, and DLL1.
-    let plan = plan::decode(&DEFAULT).expect("the default plan");
-    let outcome = call::reconfigure_sysclk(&slow(), &plan, &[0; 15], &[1]);
-    assert_eq!(delays(&outcome), [(48, 47), (2, 1)]);
-    let mut fit = slow();
-    (
-        fit.registers[12],
-        fit.registers[15],
-        fit.registers[16],
-        fit.registers[28],
-    ) = (1, 10, 8, 1);
-    let outcome = change(&fit, &DEFAULT, &[1]).expect("a change that no test refuses");
-    assert_eq!(delays(&outcome), [(48, 47), (2, 1)]);
-}
-
-/// The entries of delays alone are not the original's.
-#[test]
-fn all_other_entries_are_the_originals() {
-    let outcome = call::wake_lcpu(&slow(), &[1, 1]);
-    let expected = [(33, 1), (48, 44), (49, 0x060001), (48, 6), (49, 0x060001)];
-    assert_eq!(outcome.entries, entries(&expected));
-    let outcome = call::wake_lcpu(&at_240_mhz(), &[1, 1]);
-    assert_eq!(delays(&outcome), [(55_200, 55_200), (7_200, 7_200)]);
 }
 
 /// What is wanted, but for the delays of so many microseconds.
@@ -146,6 +102,51 @@ fn bytes_of(mut head: Head) -> [u8; BUFFER] {
     bytes
 }
 
+/// The cycles of each delay in a journal, and the original's.
+fn cycles_in(entries: &[u32], delays: &[Delay]) -> Vec<(u32, u32)> {
+    let value = |entry: u32| entry & 0xFF_FFFF;
+    let both = |delay: &Delay| (value(entries[delay.place]), value(delay.original));
+    delays.iter().map(both).collect()
+}
+
+/// "This goes through calibration, DLL setting, both supply changes and the LPSYS wake."
+#[test]
+fn at_every_place() {
+    let head = bytes_of(slow());
+    let wanted = with_delays_on(&head, &DEFAULT).map(|query| {
+        let left = query.wanted();
+        (query.call.name, cycles_in(left.entries(), &left.delays))
+    });
+    let expected = [
+        ("request", vec![(48, 47)]),
+        ("wake", vec![(44, 43), (6, 5)]),
+        ("calibrate", vec![(1, 0)]),
+        // `init` stores hdiv 1 after the calibration; the last is DLL2's, at 240 MHz.
+        (
+            "init",
+            vec![(1, 0), (12_000, 12_000), (480, 480), (2_400, 2_400)],
+        ),
+        ("reconfigure", vec![(48, 47), (2, 1)]),
+        ("change", vec![(48, 47), (2, 1)]),
+    ];
+    assert_eq!(wanted.collect::<Vec<_>>(), expected);
+}
+
+/// The original writes what it wrote; of what is wanted the entries of delays alone differ.
+#[test]
+fn all_other_entries_are_the_originals() {
+    let outcome = call::wake_lcpu(&slow(), &[1, 1]);
+    let expected = [(33, 1), (48, 43), (49, 0x060001), (48, 5), (49, 0x060001)];
+    assert_eq!(outcome.entries, entries(&expected));
+    let head = bytes_of(slow());
+    let query = Query {
+        answers: &[1, 1],
+        ..Query::on(call_of(Id::Wake), &head)
+    };
+    let expected = [(33, 1), (48, 44), (49, 0x060001), (48, 6), (49, 0x060001)];
+    assert_eq!(query.wanted().entries(), entries(&expected));
+}
+
 #[test]
 fn rounding_down_at_one_place_is_told() {
     let sides: [(u32, Side); 5] = [
@@ -189,11 +190,12 @@ fn the_smallest_difference_from_the_original() {
     let calibrated = |hdiv: u32| {
         let mut head = at_48_mhz();
         head.registers[2] = hdiv << 16;
-        call::calibrate_hrc48(&head, &[])
+        Query::on(call_of(Id::Calibrate), &bytes_of(head)).wanted()
     };
     for hdiv in 0..5 {
         assert!(!calibrated(hdiv).delays[0].is_longer());
     }
-    assert_eq!(calibrated(5).answer, 36);
-    assert_eq!(delays(&calibrated(5)), [(29, 28)]);
+    let left = calibrated(5);
+    assert_eq!(left.refusal(), 36);
+    assert_eq!(cycles_in(left.entries(), &left.delays), [(29, 28)]);
 }
