@@ -1,6 +1,6 @@
-//! The guarded change, from document 01. It is not in the original code, which
-//! gives the verdict on the plan, the plan's clock, the readings, the modes and
-//! the supply rows.
+//! The guarded change, from document 01, its delays rounded up as document 02 has
+//! them. It is not in the original code, which gives the verdict on the plan, the
+//! plan's clock, the readings, the modes and the supply rows.
 
 use crate::call::Outcome;
 use crate::delay::{self, Delay};

@@ -17,7 +17,7 @@ pub struct Lent<'a> {
     pub bytes: &'a mut [u8],
     pub clocks: &'a mut [u32],
     pub journal: &'a mut [u32],
-    /// For the delays that a model made; the library tells of none.
+    /// For the delays of what is wanted; the library tells of none.
     pub delays: &'a mut Vec<Delay>,
 }
 
@@ -91,11 +91,11 @@ pub struct Left {
     bytes: Vec<u8>,
     clocks: Vec<u32>,
     journal: Vec<u32>,
-    /// The delays that a model made.
+    /// The delays, of what is wanted alone.
     pub delays: Vec<Delay>,
 }
 
-/// Word and memory: what a model tells of its delays stands beside them.
+/// Word and memory; what is told of the delays stands beside them.
 impl PartialEq for Left {
     fn eq(&self, other: &Self) -> bool {
         self.word == other.word

@@ -147,8 +147,22 @@ fn all_other_entries_are_the_originals() {
     assert_eq!(query.wanted().entries(), entries(&expected));
 }
 
+/// Sides that are wrong in delays of so many microseconds are told from what is wanted in just
+/// the calls that have such delays.
+fn are_told(sides: [(u32, Side); 5], head: Head, plan: &[u8]) {
+    for query in with_delays_on(&bytes_of(head), plan) {
+        for (us, side) in sides {
+            let is_told = query.by(side) != query.wanted();
+            assert_eq!(is_told, query.call.delays.contains(&us), "{us} us: {query}");
+        }
+    }
+}
+
+/// With 384 MHz over 7 planned, the delays of `init` are of 48 MHz over 7.
 #[test]
 fn rounding_down_at_one_place_is_told() {
+    let mut plan = DEFAULT;
+    (plan[field::HDIV], plan[field::DLL1 + 1], plan[field::USB]) = (7, 15, 0);
     let sides: [(u32, Side); 5] = [
         (3, rounds_down::<3>),
         (10, rounds_down::<10>),
@@ -156,15 +170,7 @@ fn rounding_down_at_one_place_is_told() {
         (230, rounds_down::<230>),
         (250, rounds_down::<250>),
     ];
-    // 384 MHz over 7, so that the delays of `init` are of 48 MHz over 7.
-    let mut plan = DEFAULT;
-    (plan[field::HDIV], plan[field::DLL1 + 1], plan[field::USB]) = (7, 15, 0);
-    for query in with_delays_on(&bytes_of(slow()), &plan) {
-        for (us, side) in sides {
-            let is_told = query.by(side) != query.wanted();
-            assert_eq!(is_told, query.call.delays.contains(&us), "{us} us: {query}");
-        }
-    }
+    are_told(sides, slow(), &plan);
 }
 
 #[test]
@@ -176,12 +182,7 @@ fn a_cycle_too_many_is_told() {
         (230, adds_a_cycle::<230>),
         (250, adds_a_cycle::<250>),
     ];
-    for query in with_delays_on(&bytes_of(at_48_mhz()), &DEFAULT) {
-        for (us, side) in sides {
-            let is_told = query.by(side) != query.wanted();
-            assert_eq!(is_told, query.call.delays.contains(&us), "{us} us: {query}");
-        }
-    }
+    are_told(sides, at_48_mhz(), &DEFAULT);
 }
 
 /// What docs/DIFFERENCES.md has: the least divider of 48 MHz at which a delay is not the original's.
