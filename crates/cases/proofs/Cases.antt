@@ -1,4 +1,4 @@
--- The starred cases of document 01, each computed from the definitions that the contracts cite.
+-- The starred cases of document 01, and one of document 02, each computed from the definitions that the contracts cite.
 use Prim.Native.Nat.{ℕ, zero, suc, _/_, _%_}
 use mathlib.Core.Path.{_≡_, refl}
 use mathlib.Core.Bool.{true, false, cond}
