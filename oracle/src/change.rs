@@ -243,7 +243,7 @@ impl Running<'_> {
         self.entries.push(entry(number as u32, value));
     }
 
-    /// So many microseconds of the HCLK that reads.
+    /// So many microseconds of the HCLK that reads; `original` is what lib.rs has for them.
     fn delay(&mut self, us: u32) -> Result<(), u64> {
         let hclk = readings::hclk(&self.head).ok_or(34u64)?;
         let cycles = u64::from(hclk) * u64::from(us) / 1_000_000;

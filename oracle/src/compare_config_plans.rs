@@ -24,8 +24,8 @@ pub fn run(groups: &mut Groups, call: &'static Call, quick: bool) {
     groups.group("delays", |tally| delays(tally, call));
 }
 
-/// Delays of whole cycles and of parts of one: `init` stores the plan's hdiv before them, and
-/// from 48 MHz over 7 only the fastest DLL1 still leads to supply S.
+/// Delays of whole cycles and of parts of one: `init` stores the plan's hdiv before them, 7 is
+/// the first that leaves parts, and with it only 360 and 384 MHz still lead to supply S.
 fn delays(tally: &mut Tally, call: &'static Call) {
     let [ready, ..] = few_lists();
     let plan = |stage, hdiv| {

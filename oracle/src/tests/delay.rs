@@ -147,6 +147,19 @@ fn all_other_entries_are_the_originals() {
     assert_eq!(query.wanted().entries(), entries(&expected));
 }
 
+/// A side for each length of a delay.
+macro_rules! for_each_delay {
+    ($side:ident) => {
+        [
+            (3, $side::<3> as Side),
+            (10, $side::<10>),
+            (30, $side::<30>),
+            (230, $side::<230>),
+            (250, $side::<250>),
+        ]
+    };
+}
+
 /// Sides that are wrong in delays of so many microseconds are told from what is wanted in just
 /// the calls that have such delays.
 fn are_told(sides: [(u32, Side); 5], head: Head, plan: &[u8]) {
@@ -163,26 +176,12 @@ fn are_told(sides: [(u32, Side); 5], head: Head, plan: &[u8]) {
 fn rounding_down_at_one_place_is_told() {
     let mut plan = DEFAULT;
     (plan[field::HDIV], plan[field::DLL1 + 1], plan[field::USB]) = (7, 15, 0);
-    let sides: [(u32, Side); 5] = [
-        (3, rounds_down::<3>),
-        (10, rounds_down::<10>),
-        (30, rounds_down::<30>),
-        (230, rounds_down::<230>),
-        (250, rounds_down::<250>),
-    ];
-    are_told(sides, slow(), &plan);
+    are_told(for_each_delay!(rounds_down), slow(), &plan);
 }
 
 #[test]
 fn a_cycle_too_many_is_told() {
-    let sides: [(u32, Side); 5] = [
-        (3, adds_a_cycle::<3>),
-        (10, adds_a_cycle::<10>),
-        (30, adds_a_cycle::<30>),
-        (230, adds_a_cycle::<230>),
-        (250, adds_a_cycle::<250>),
-    ];
-    are_told(sides, at_48_mhz(), &DEFAULT);
+    are_told(for_each_delay!(adds_a_cycle), at_48_mhz(), &DEFAULT);
 }
 
 /// What docs/DIFFERENCES.md has: the least divider of 48 MHz at which a delay is not the original's.
