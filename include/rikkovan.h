@@ -1336,33 +1336,33 @@ uint64_t rikkovan_change(uint8_t *RIKKOVAN_RESTRICT head, uint64_t head_len, con
  *
  * The bytes of stack that a call needs at most, from its return address down, as the library is
  * compiled for x86-64: the deepest way through its machine code, rounded up to 256. The build for a
- * Cortex-M33 needs less for every call. No call recurses. What memcpy of the C library needs comes
- * on top, and where a program is linked so that it looks memcpy up at the first call, what the
- * dynamic linker needs then.
+ * Cortex-M33 needs less for every call. No call recurses. What memcpy and memset of the C library
+ * need comes on top, and where a program is linked so that it looks them up at the first call, what
+ * the dynamic linker needs then.
  */
 #define RIKKOVAN_STACK_PLAN_CHECK 256
-#define RIKKOVAN_STACK_READ_CLOCKS 1280
-#define RIKKOVAN_STACK_READ_LPSYS 1280
-#define RIKKOVAN_STACK_READ_FIT 1792
-#define RIKKOVAN_STACK_MOMENT 2048
+#define RIKKOVAN_STACK_READ_CLOCKS 1536
+#define RIKKOVAN_STACK_READ_LPSYS 1536
+#define RIKKOVAN_STACK_READ_FIT 2048
+#define RIKKOVAN_STACK_MOMENT 2304
 #define RIKKOVAN_STACK_CONFIG_LPSYS_HCLK_MHZ 3328
-#define RIKKOVAN_STACK_ENSURE_SAFE_LCPU_FREQUENCY 2560
-#define RIKKOVAN_STACK_SET_LPSYS_HDIV 2560
-#define RIKKOVAN_STACK_SET_LPSYS_DIV 2816
-#define RIKKOVAN_STACK_CONFIG_LPSYS_MAC_CLOCK 2816
-#define RIKKOVAN_STACK_SELECT_LPSYS_SYSCLK 2816
-#define RIKKOVAN_STACK_SELECT_LPSYS_PERI 2816
-#define RIKKOVAN_STACK_CANCEL_LCPU_ACTIVE_REQUEST 2560
+#define RIKKOVAN_STACK_ENSURE_SAFE_LCPU_FREQUENCY 3072
+#define RIKKOVAN_STACK_SET_LPSYS_HDIV 2048
+#define RIKKOVAN_STACK_SET_LPSYS_DIV 2304
+#define RIKKOVAN_STACK_CONFIG_LPSYS_MAC_CLOCK 2304
+#define RIKKOVAN_STACK_SELECT_LPSYS_SYSCLK 2304
+#define RIKKOVAN_STACK_SELECT_LPSYS_PERI 2304
+#define RIKKOVAN_STACK_CANCEL_LCPU_ACTIVE_REQUEST 2048
 #define RIKKOVAN_STACK_WAKE_LCPU 2816
-#define RIKKOVAN_STACK_ENSURE_HXT48_READY 3072
-#define RIKKOVAN_STACK_CALIBRATE_HRC48 3328
-#define RIKKOVAN_STACK_INIT 9216
-#define RIKKOVAN_STACK_RECONFIGURE_SYSCLK 6656
-#define RIKKOVAN_STACK_LOAD_CHECK 512
-#define RIKKOVAN_STACK_BOOK 2048
+#define RIKKOVAN_STACK_ENSURE_HXT48_READY 2816
+#define RIKKOVAN_STACK_CALIBRATE_HRC48 3584
+#define RIKKOVAN_STACK_INIT 10496
+#define RIKKOVAN_STACK_RECONFIGURE_SYSCLK 7424
+#define RIKKOVAN_STACK_LOAD_CHECK 256
+#define RIKKOVAN_STACK_BOOK 2304
 #define RIKKOVAN_STACK_RELEASE 2048
 #define RIKKOVAN_STACK_LOOK_UP 1792
-#define RIKKOVAN_STACK_CHANGE 5120
+#define RIKKOVAN_STACK_CHANGE 6656
 
 /*
  * Each call on a head as a macro, which makes the word that it returns a rikkovan_answer.

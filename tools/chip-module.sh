@@ -1,62 +1,53 @@
 #!/usr/bin/env bash
-# chip-module.sh: writes target/module/rikkovan.ll, the module that librikkovan.a is compiled from, as text. The kit gives it
-# to its compiler and keeps it nowhere; so the library is built a second time, beside the first, by a kit whose compiler keeps it.
+# chip-module.sh: writes target/module/rikkovan.ll, the module that librikkovan.a is compiled from, as text. rattle gives it
+# to its compiler and keeps it nowhere; so the library is built a second time, beside the first, with a compiler that keeps it.
 # That archive must be the first one byte for byte: the module is then the one that is proved. Needs a built library.
 set -euo pipefail
 cd "$(dirname "$0")/.."
 
 out=$PWD/target/module
+# Not below the repository, in which rt ci refuses links.
+copying=$(mktemp -d)
+trap 'rm -rf "$copying"' EXIT
 library=target/staticlib/librikkovan.a
-kit=${RATTLE_HOME:-$(dirname "$(dirname "$(readlink -f "$(command -v rt)")")")}
-machine=$(uname -m)
-tools=$kit/on/$machine/toolchain/bin
+toolchain=$(dirname "$(rt doc)")/toolchain
 
 fail() {
     echo "module: FAILED: $*"
     exit 1
 }
 
-# Links to all that a folder has but one.
-links() { # FOLDER LEFT-OUT TO
+# The kit's toolchain as links, but for a compiler that copies the module before it runs the kit's.
+toolchain_that_keeps_the_module() {
     local file
-    mkdir -p "$3"
-    for file in "$1"/*; do
-        [ "${file##*/}" = "$2" ] || ln -s "$(readlink -f "$1")/${file##*/}" "$3/"
+    mkdir -p "$copying/bin"
+    ln -s "$toolchain/lib" "$copying/lib"
+    for file in "$toolchain"/bin/*; do
+        [ "${file##*/}" = clang ] || ln -s "$(readlink -f "$file")" "$copying/bin/${file##*/}"
     done
-}
-
-kit_that_keeps_the_module() {
-    local own=$out/kit/on/$machine
-    links "$kit" on "$out/kit"
-    links "$kit/on/$machine" toolchain "$own"
-    links "$kit/on/$machine/toolchain" bin "$own/toolchain"
-    links "$tools" clang "$own/toolchain/bin"
-    cat >"$own/toolchain/bin/clang" <<END
+    cat >"$copying/bin/clang" <<END
 #!/bin/sh
 for word; do case \$word in *.bc) cp "\$word" '$out/module.bc' ;; esac; done
-exec '$tools/clang' "\$@"
+exec '$toolchain/bin/clang' "\$@"
 END
-    chmod +x "$own/toolchain/bin/clang"
+    chmod +x "$copying/bin/clang"
 }
 
-# The repository as links, so that what rt writes goes beside the first library. All is proved there already.
+# Over the libraries that the first one was built over.
 second_library() {
-    mkdir -p "$out/again/target/log"
-    ln -s "$PWD/crates" "$PWD/crates.txt" "$PWD/tools" "$out/again/"
-    ln -s "$PWD/target/rlib" "$PWD/target/stamp" "$out/again/target/"
-    RATTLE_HOME=$out/kit "$out/again/tools/rt.sh" staticlib rikkovan >"$out/log" 2>&1 ||
-        { tail "$out/log"; fail 'the library is not proved'; }
-    grep -q '^logic=proved ' "$out/log" || fail 'rt does not say that the library is proved'
-    cmp "$library" "$out/again/$library" || fail 'the second library differs from the first'
+    tools/rattle.py build rikkovan --cpu x86-64 --backend llvm --toolchain "$copying" -o "$out/librikkovan.a" >"$out/log" 2>&1 ||
+        { tail "$out/log" && fail 'the library is not proved over the libraries in crates/*/out; make lib builds both anew'; }
+    grep -q '^logic=proved ' "$out/log" || fail 'rattle does not say that the library is proved'
+    cmp "$library" "$out/librikkovan.a" || fail 'the second library differs from the first'
     [ -f "$out/module.bc" ] || fail 'the compiler was given no module'
 }
 
 [ -f "$library" ] || fail "$library is missing"
 rm -rf "$out"
 mkdir -p "$out"
-kit_that_keeps_the_module
+toolchain_that_keeps_the_module
 second_library
-"$tools/clang" --target=x86_64-unknown-linux-gnu -S -emit-llvm -Xclang -disable-llvm-passes -x ir "$out/module.bc" -o "$out/unchecked.ll"
+"$toolchain/bin/clang" --target=x86_64-unknown-linux-gnu -S -emit-llvm -Xclang -disable-llvm-passes -x ir "$out/module.bc" -o "$out/unchecked.ll"
 tools/chip-layout.py "$out/unchecked.ll" || fail 'the module may depend on the size of a pointer'
-rm -rf "$out/kit" "$out/again"
+rm "$out/librikkovan.a"
 mv "$out/unchecked.ll" "$out/rikkovan.ll"

@@ -8,13 +8,14 @@ cd "$(dirname "$0")/.."
 target=$1
 module=${2:-target/module/rikkovan.ll}
 folder=${3:-}
-kit=${RATTLE_HOME:-$(dirname "$(dirname "$(readlink -f "$(command -v rt)")")")}
-tools=$kit/on/$(uname -m)/toolchain/bin
-# What the kit gives its compiler, but for the flags of x86-64.
+tools=$(dirname "$(rt doc)")/toolchain/bin
+# What rattle gives its compiler, but for the flags of x86-64.
 flags=(--target="$target" -ffunction-sections -fdata-sections -mllvm -trap-unreachable -mllvm -no-trap-after-noreturn
-    --no-default-config -no-canonical-prefixes -fno-crash-diagnostics -Werror -x ir)
-# Heads are passed by value, so each function that is compiled into its caller saves copies of one; -O2 would unroll the loops.
-one_function=(-O1 -mllvm -inline-threshold=4000)
+    -mllvm -disable-machine-licm -mllvm -disable-postra-machine-licm -mllvm -sink-common-insts=false
+    --no-default-config -no-canonical-prefixes -fintegrated-cc1 -fno-crash-diagnostics -Werror -x ir)
+# Heads are passed by value, so each function that is compiled into its caller saves copies of one. -O1 would keep the zeros with which
+# rattle fills each local first, and to unroll the loops would take 28,000 bytes more.
+one_function=(-O2 -fno-unroll-loops -mllvm -inline-threshold=4000)
 
 fail() {
     echo "chip: FAILED: $*"
@@ -28,7 +29,7 @@ for_target() { # TO
     awk -v target="$1.target" '
         BEGIN { while ((getline line <target) > 0) { split(line, word, " "); lines[word[2]] = line } }
         /^target / { print lines[$2]; next }
-        /^attributes #/ { sub(/ "probe-stack"="inline-asm"/, ""); sub(/ "target-cpu"="x86-64"/, "") }
+        /^attributes #/ { sub(/ "probe-stack"="inline-asm" "stack-probe-size"="[0-9]+"/, ""); sub(/ "target-cpu"="x86-64"/, "") }
         { print }' "$module" >"$1"
     rm "$1.target"
     [ "$(diff "$module" "$1" | grep -c '^>')" -eq 3 ] || fail 'the edit of the module is not of three lines'
@@ -52,10 +53,11 @@ wasm() {
     mkdir -p "$out"
     for_target "$out/rikkovan.ll"
     "$tools/clang" "${flags[@]}" -O2 -c "$out/rikkovan.ll" -o "$out/rikkovan.o"
+    local exports
+    readarray -t exports < <(sed -n 's/^uint64_t \(rikkovan_[a-z0-9_]*\)(.*/--export=\1/p' include/rikkovan.h)
     # The kit's compiler is its linker too, by this name.
-    ln -sf "$tools/clang" "$out/wasm-ld"
-    sed -n 's/^uint64_t \(rikkovan_[a-z0-9_]*\)(.*/--export=\1/p' include/rikkovan.h |
-        xargs "$out/wasm-ld" --no-entry --strip-all --stack-first -z stack-size=32768 -o "$out/rikkovan.wasm" "$out/rikkovan.o"
+    (exec -a wasm-ld "$tools/clang" "${exports[@]}" --no-entry --strip-all --stack-first -z stack-size=32768 \
+        -o "$out/rikkovan.wasm" "$out/rikkovan.o")
 }
 
 case $target in

@@ -10,7 +10,7 @@ from pathlib import Path
 
 ROOT = Path(__file__).resolve().parent.parent
 PAGE = ROOT / "docs/CONTRACTS.md"
-CRATES = re.findall(r"^(\w+):", (ROOT / "crates.txt").read_text(), re.M)
+CRATES = re.findall(r"^(\w+)[\w =]*:", (ROOT / "crates.txt").read_text(), re.M)
 # How many arguments of these are shown. The others are what is lent, and what is left of it.
 SHOWN = {"Gives": 1, "Answers": 1, "Does": 2, "DoesWithoutJournal": 1, "Lent": 1, "Admits": 1, "Puts": 1}
 # A wrong program is a call's own where at most FEW calls share it. A call has FEWEST of them, and the table of the exports names up to NAMED.
@@ -36,7 +36,17 @@ class Item:
     def clauses(self, word):
         """What the contract of a function requires or ensures."""
         head = re.split(r"\n *\{\n", self.text, maxsplit=1)[0]
-        return re.findall(word + r" \{ (?:λ \w+\. )?⌜ (.*?) ⌝ \}", head, re.S)
+        return [inside(head, begins.end()) for begins in re.finditer(rf"^ *{word}(?: \w+)? \{{", head, re.M)]
+
+
+def inside(text, start):
+    """What stands between a brace, before the start, and the one that closes it."""
+    depth = 1
+    for at in range(start, len(text)):
+        depth += {"{": 1, "}": -1}.get(text[at], 0)
+        if depth == 0:
+            return text[start:at].strip()
+    sys.exit(f"contracts: no brace closes {text[start:]}")
 
 
 class Edit:
@@ -47,6 +57,13 @@ class Edit:
         self.crate, self.label, self.true = file.parts[-3], file.stem, text.split("\n", 1)[0].strip("# ")
         self.file = file.parents[1] / re.search(r"^file: (.*)", text, re.M)[1]
         self.olds = re.findall(r"^old: (.*)", text, re.M)
+
+
+def imports(text, word):
+    """The paths that the use items of a file bring in."""
+    for path, names in re.findall(rf"^{word} ([\w:]+?)(?:::\{{([\w\s,]*)\}})?;", text, re.M):
+        for name in re.findall(r"\w+", names) or [None]:
+            yield tuple(path.split("::")) + ((name,) if name else ())
 
 
 def code_of(file):
@@ -99,14 +116,13 @@ class Sources:
 
     def passed_on_at(self, item):
         """The names that the module of an item passes on from others (`pub use`)."""
-        for path in re.findall(r"^pub use ([\w:]+);", self.texts[item.file], re.M):
-            path = tuple(path.split("::"))
+        for path in imports(self.texts[item.file], "pub use"):
             yield (*item.place, path[-1]), path if path[0] in CRATES else (*item.place, *path)
 
     def find(self, item, path):
         """The function or constant that a path means at an item."""
-        brought = re.search(rf"^(?:pub )?use ([\w:]*\b{path[0]});", self.texts[item.file], re.M)
-        path = (*brought[1].split("::"), *path[1:]) if brought else path
+        brought = [one for one in imports(self.texts[item.file], "(?:pub )?use") if one[-1] == path[0]]
+        path = (*brought[0], *path[1:]) if brought else path
         for key in [(item.crate, *path[1:])] if path[0] == "crate" else [(*item.place, *path), path]:
             for length in range(1, len(key) + 1):
                 if key[:length] in self.passed_on:
@@ -128,7 +144,7 @@ class Sources:
     def definitions_in(self, item, text):
         """The definitions that a text of an item names."""
         names = {}
-        for crate, module, brought in re.findall(r"use Rattle·(\w+?)(?:·specs)?\.specs\.([\w.]+)\.\{([^}]*)\}", self.texts[item.file]):
+        for crate, module, brought in re.findall(r"use Rattle\.(\w+)\.specs\.([\w.]+)\.\{([^}]*)\}", self.texts[item.file]):
             for given, here in re.findall(r"([^\s,]+)(?: as ([^\s,]+))?", brought):
                 names[here or given] = (crate, *module.split("."), given)
         found = [self.definitions.get(names.get(word, (*item.place, word))) for word in re.findall(r"[^\s(){};,.«»]+", text)]
@@ -163,9 +179,8 @@ def row_of(item):
 def short(clause):
     """A clause without what a reader need not see: x is what is lent, x′ what is left of it."""
     clause = re.sub(r"«(\w+)»", r"\1", " ".join(clause.split()))
-    for written, shown in ((r"now \((\w+) \.entry\)", r"\1"), (r"now \((\w+) \.exit\)", r"\1′"), (r"now (\w+)", r"\1")):
-        clause = re.sub(rf"\({written}\)", shown, clause)
-        clause = re.sub(written, shown, clause)
+    clause = re.sub(r"\b(\w+)\.(?:now|old)\b", r"\1", clause)
+    clause = re.sub(r"\b(\w+)\.new\b", r"\1′", clause)
     words = re.findall(r"[^\s()]+|\((?:[^()]|\((?:[^()]|\((?:[^()]|\([^()]*\))*\))*\))*\)", clause)
     return " ".join(words[: 1 + SHOWN[words[0]]]) if words[0] in SHOWN else clause
 
@@ -175,7 +190,7 @@ def code(text):
 
 
 def signature(item):
-    lent = re.search(r"fn \w+\((.*?)\)(?: ->| \{|\n)", item.text, re.S)[1]
+    lent = re.search(r"fn \w+[^(]*\((.*?)\)(?: ->| \{|\n)", item.text, re.S)[1]
     names = re.findall(r"self|\w+(?=: )", lent)
     return code("::".join(item.key[1:]) + f"({', '.join(names)})")
 

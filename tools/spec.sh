@@ -44,7 +44,7 @@ dll Dll
 core_clock dividers CoreClock switch
 init_first begin warning First
 init_rest flash selects Rest
-clock_init core Init Told
+clock_init from_core Init Told
 clock_config calibrate init reconfigure
 ## The guarded change
 fit rail Fit Unfit
@@ -63,7 +63,7 @@ play Play'
 
 # The crates that rikkovan, claim and play use, themselves included: crates.txt names each after those that it uses.
 used=$(awk -F: '
-    !/^#/ && NF > 1 { names[++n] = $1; uses[$1] = $2 }
+    !/^#/ && NF > 1 { sub(/ .*/, "", $1); names[++n] = $1; uses[$1] = $2 }
     END {
         want["rikkovan"] = want["claim"] = want["play"] = 1
         for (i = n; i > 0; i--) if (want[names[i]]) {

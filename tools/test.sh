@@ -1,21 +1,18 @@
 #!/usr/bin/env bash
-# The whole test, run by `make test`: proves every crate, then tests the programs and the proved
-# library, from C, from Rust and against the Rust. On success the last line is that of rt ci, 'N passed, 0 failed'.
+# The whole test, run by `make test`: rt ci proves every crate, then the programs and the proved library are tested, from C, from Rust
+# and against the Rust. On success the last line is that of rt ci, 'N passed, 0 failed'.
 set -euo pipefail
 cd "$(dirname "$0")/.."
 exec </dev/null
 PATH=$PATH:${HOME:-/root}/.cargo/bin
 
 logs=$(mktemp -d)
-declare -A begun
+group=''
 trap leave EXIT
 
 # Ends what was begun and goes on yet, with all that it started.
 leave() {
-    local group
-    for group in "${begun[@]}"; do
-        kill -- "-$group" 2>/dev/null || true
-    done
+    [ -z "$group" ] || kill -- "-$group" 2>/dev/null || true
     rm -rf "$logs"
 }
 
@@ -44,7 +41,7 @@ every_crate_is_listed() {
     local folder name unlisted=0
     for folder in crates/*/; do
         name=$(basename "$folder")
-        if ! grep -qE "^[[:space:]]*${name}[[:space:]]*:" crates.txt; then
+        if ! grep -qE "^[[:space:]]*${name}[[:space:]]*(staticlib[[:space:]]*)?:" crates.txt; then
             say "crates/$name is not listed in crates.txt"
             unlisted=1
         fi
@@ -52,83 +49,50 @@ every_crate_is_listed() {
     return "$unlisted"
 }
 
-contracts_are_made() {
-    ! command -v python3 >/dev/null || tools/contracts.py --check
+# In a process group of its own, for leave to end.
+apart() { # COMMAND..
+    set -m
+    "$@" &
+    set +m
+    group=$!
+    wait "$group" || return
+    group=''
 }
 
-# In a process group of its own too, for leave to end.
+# rt ci passes with must-fail edits that it cannot apply or read. Here they fail, since they try nothing.
 rt_ci() {
-    set -m
-    tools/prove.sh 'rt ci' ci &
-    set +m
-    begun[rt]=$!
-    wait "${begun[rt]}" || return
-    unset 'begun[rt]'
+    local bad
+    apart tools/prove.sh 'rt ci' ci || return
     tally=$(tail -n 1 build/log/ci)
-    [[ $tally =~ ^[0-9]+' passed, 0 failed'$ ]]
+    [[ $tally =~ ^[0-9]+' passed, 0 failed'$ ]] || return
+    bad=$(sed -n 's/^rt: ok;.* must-fail edits: [^;]*, \([0-9]*\) bad.*/\1/p' build/log/ci)
+    [ "${bad:-0}" -eq 0 ] && return
+    grep 'BAD EDIT' build/log/ci || true
+    return 1
 }
 
 sources=${SIFLI_SRC:-../shared/docs/src}
 
 has_cargo() { command -v cargo >/dev/null; }
 
-has_python() { command -v python3 >/dev/null; }
-
 can_compare() { [ -d "$sources/sifli-hal/src" ] && has_cargo; }
 
-# Runs a command beside the others, on what they leave of the processors, in a process group of its own.
-begin() { # NAME COMMAND..
-    set -m
-    "${@:2}" >"$logs/$1" 2>&1 &
-    set +m
-    begun[$1]=$!
-}
-
-# Waits for it, and prints what it said.
-end() { # NAME
-    local status=0
-    wait "${begun[$1]}" || status=$?
-    unset "begun[$1]"
-    cat "$logs/$1"
-    return "$status"
-}
-
-low_make() { exec nice -n 19 make --no-print-directory "$@"; }
-
-# They need nothing proved.
-test_oracle() {
-    can_compare || return 0
-    low_make test-oracle
-}
-
-# Waits for files that rt writes when it has proved a program or a library.
-await() { # FILE..
-    local file
-    for file; do
-        until [ -f "target/$file" ]; do sleep 1; done
-    done
-}
-
-# The programs and what uses the library, two parts at a time; the two halves of the comparison last, since they take about as long as each other.
+# The two halves of the comparison come last, since they take about as long as each other.
 test_library() {
-    local parts=(lib test-programs test-c test-fuzz)
-    has_cargo && parts+=(test-rust)
-    has_python && parts+=(chip wasm)
-    has_python && has_cargo && parts+=(chip-rust)
-    can_compare && parts+=(compare-plans compare-heads)
-    await log/lpset.stamp log/replay.stamp stamp/rikkovan
-    low_make -j2 --output-sync "${parts[@]}"
+    local parts=(lib test-programs test-c test-fuzz chip wasm)
+    has_cargo && parts+=(test-rust chip-rust)
+    can_compare && parts+=(test-oracle compare-plans compare-heads)
+    apart make --no-print-directory "-j$(nproc)" --output-sync "${parts[@]}"
 }
 
 say_skipped() {
-    has_python || say 'builds for the chip and for WebAssembly skipped: python3 is missing'
     has_cargo || say 'tests from Rust and comparison with the Rust skipped: cargo is missing'
-    command -v python3 >/dev/null || say 'comparison of docs/CONTRACTS.md with the sources skipped: python3 is missing'
     [ -d "$sources/sifli-hal/src" ] ||
         say "comparison with the Rust skipped: no sources at $sources (SIFLI_SRC names their folder)"
 }
 
 need rt 'to prove the crates (the Rattle kit)'
+need python3 'for rt and the tools'
 need make 'to build the tests'
 need "${CC:-cc}" 'to test the library from C'
 need "${CXX:-g++}" 'to test the header from C++'
@@ -136,17 +100,13 @@ need "${CXX:-g++}" 'to test the header from C++'
 
 say_skipped
 stage 'list of crates' every_crate_is_listed
-stage 'docs/CONTRACTS.md and the sources' contracts_are_made
+stage 'docs/CONTRACTS.md and the sources' tools/contracts.py --check
 stage 'a place for each definition' tools/spec.sh "$logs/spec.md"
 stage 'how far the prover is' tests/prove/run.sh
-rm -rf target
-begin oracle test_oracle
-begin library test_library
 stage 'rt ci' rt_ci
-stage 'why the must-fail edits were refused' tools/refusals.sh
-stage 'tests of the oracle' end oracle
-stage 'tests of the library and the programs' end library
-# When the static library is written, whose line counts the axioms of all that it links.
+stage 'why the must-fail edits were refused' tools/refusals.py
+stage 'the programs and the archive' tools/take.sh
 stage 'axioms' tools/axioms.sh
+stage 'tests of the library and the programs' test_library
 say "all passed ($SECONDS s)"
 echo "$tally"

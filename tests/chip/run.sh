@@ -21,7 +21,7 @@ program() { # TO HEADER-FOLDER WORDS..
     "${arm[@]}" "${strict[@]}" -I"$2" -o "$1" tests/chip/board.c tests/chip/replay.c "${@:3}"
 }
 
-# A run takes seconds, but in the gate it has only what the prover leaves of the processors.
+# A run takes seconds, but in the gate it has only what the other tests leave of the processors.
 emulate() { # PROGRAM WORD..
     local words=enable=on,target=native word
     for word in "${@:2}"; do words+=,arg=$word; done

@@ -1,5 +1,5 @@
 #!/usr/bin/env bash
-# Tests the program lpset, which `rt check lpset` builds, on the heads that make-heads.sh writes.
+# Tests the program lpset, which `make target/bin/lpset` builds, on the heads that make-heads.sh writes.
 # Prints a line for each test.
 set -uo pipefail
 cd "$(dirname "$0")/../.." || exit
@@ -35,7 +35,7 @@ heads_are_made_again() {
 }
 
 [ -x "$lpset" ] || {
-    echo "lpset: $lpset is missing; rt check lpset builds it"
+    echo "lpset: $lpset is missing; make target/bin/lpset builds it"
     exit 1
 }
 

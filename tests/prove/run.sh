@@ -5,11 +5,11 @@ set -uo pipefail
 cd "$(dirname "$0")/../.." || exit
 . tests/lib.sh prove || exit
 
-export PROVE_EVERY=1 TMPDIR=$work
+export PROVE_EVERY=1
 repo=$work/repo
 mkdir -p "$repo/tools" "$work/bin" "$repo"/crates/{low,high}/must-fail
-cp tools/prove.sh tools/rt.sh "$repo/tools"
-printf '%s\n' '# lowest first' 'low:' 'other:' 'high: low io' >"$repo/crates.txt"
+cp tools/prove.sh "$repo/tools"
+printf '%s\n' '# lowest first' 'low:' 'other:' 'high staticlib: low io' >"$repo/crates.txt"
 touch "$repo"/crates/{low,high}/must-fail/wrong.edit
 
 cat >"$work/bin/rt" <<'RT'
@@ -18,40 +18,51 @@ cat >"$work/bin/rt" <<'RT'
 RT
 chmod +x "$work/bin/rt"
 cat >"$work/passes" <<'PLAY'
-rm -rf target
-mkdir -p target/log target/must-fail/{low,high}
-proved='logic=proved functions=6 sum=097e4c862dff5811 native=nat,char,string logic-built=trusted libraries-built=trusted'
-: >target/log/low.say
-: >target/log/other.say
-printf '%s\n' 'fn low::add: proved' "$proved" 'rt: low proved (1 s)' >target/log/low.out
+[ "$*" = ci ] && [ -f crates.txt ] || exit 3
+proved='logic=proved functions=6 sum=dac8208d650f15bf native=nat,char,string logic-built=trusted libraries-built=trusted statements=trusted'
+printf '%s\n' '== low' 'fn low::add: proved' "$proved" 'rt: low proved'
+echo 'rt: low: trying its must-fail edits (1)'
 sleep 2
-printf '%s\n' "$proved" 'rt: other proved (2 s)' >target/log/other.out
-cat target/log/low.out target/log/other.out
-printf '%s\n' 'fn high::sum: proved' "$proved" 'rt: high proved (0 s)'
-: >target/must-fail/low/wrong.out
-: >target/must-fail/high/wrong.out
+printf '%s\n' 'rt: other is kept: an earlier run on this machine proved the same files over the same libraries'
+printf '%s\n' '== high: its tests' "$proved" 'rt: high: its tests are proved'
+printf '%s\n' '== high' 'fn high::sum: proved' "$proved" 'rt: high proved'
 sleep 2
-echo 'rt: must-fail low/wrong: refused, as it must be (first at proofs/Low.antt:7:3; 2 s)'
-echo 'rt: must-fail high/wrong: refused, as it must be (2 s)'
-echo "rt: high ran as nobody, and wrote what its file 'stdout' has (0 s)"
-echo 'rt: ok, 3 crates proved, 2 must-fail edits refused'
+echo 'rt: low: 1 of its 1 must-fail edits were tried by an earlier run on this machine, and nothing that they stand on has changed'
+echo 'rt: must-fail low/wrong.edit: refused, as it must be: note: src/lib.rt:7:3: it is not proved that a holds'
+echo 'rt: must-fail high/wrong.edit: refused, as it must be'
+echo 'rt: high ran, and wrote what its file stdout has'
+echo "rt: high ran (built by Rattle's own compiler), and wrote what its file stdout has"
+echo 'rt: high: its tests passed'
+echo 'rt: ok; handles allowed: none; must-fail edits: 2 refused; every proof and must-fail edit was done in this run'
 echo '5 passed, 0 failed'
 PLAY
 cat >"$work/fails" <<'PLAY'
+[ "${PWD##*/}" = high ] || exit 3
+echo 'rt: chose --jobs 2 for low'
 echo 'fn low::add: proved'
-echo 'rt: low proved (unchanged since it was last proved)'
-echo 'crates/high/src/lib.rt:4:5: error: it is not proved that 2 ≤ 1'
-echo 'rt: high NOT PROVED (exit 1, 3 s)'
-echo 'rt: FAILED: high'
+echo 'logic=proved functions=1'
+echo 'rt: chose --jobs 2 for high'
+echo 'src/lib.rt:4:5: error: it is not proved that 2 ≤ 1'
+echo 'logic=not-proved functions=1'
+exit 1
+PLAY
+cat >"$work/refuses" <<'PLAY'
+printf '%s\n' '== low' 'fn low::add: proved' 'rt: low proved'
+printf '%s\n' '== high' 'src/lib.rt:4:5: error: it is not proved that 2 ≤ 1' 'rt: high NOT PROVED'
+echo 'rt: must-fail low/wrong.edit: NOT REFUSED: the crate is still proved with this edit'
+echo 'rt: FAILED: high low/wrong.edit'
+echo '2 passed, 2 failed'
 exit 1
 PLAY
 cat >"$work/archives" <<'PLAY'
-echo 'rt: low proved (unchanged since it was last proved)'
-echo 'rt: target/staticlib/libhigh.a has the functions of high that are marked #[no_mangle] pub extern "C"'
+[ "$*" = 'lib --cpu x86-64' ] && [ "${PWD##*/}" = high ] || exit 3
+echo 'rt: chose --jobs 2 for high'
+sleep 2
+echo 'logic=proved functions=2 target=x86_64-unknown-linux-gnu'
 PLAY
-echo 'echo "rt: low proved (1 s)"; kill -KILL $$' >"$work/dies"
-echo 'echo "rt: crates.txt: line 3: expected NAME: DEP DEP ..." >&2; exit 2' >"$work/cannot"
-echo 'sleep 1000 & echo $! >sleeper; wait' >"$work/goes_on"
+echo 'echo "rt: low proved"; kill -KILL $$' >"$work/dies"
+echo 'echo "rt: crates.txt: line 3: write NAME [staticlib|wasm64] [: LIBRARY ..]" >&2; exit 2' >"$work/cannot"
+echo 'sleep 1000 & echo $! >"$SLEEPER"; wait' >"$work/goes_on"
 
 # Runs the script, and wants a status.
 plays() { # STATUS PLAY WORDS..
@@ -78,41 +89,58 @@ passes() {
     rm -rf "$repo/build"
     plays 0 passes ci && diff /dev/null "$work/out" &&
         says 'try it: 3 crates, 2 must-fail edits; what rt says goes to build/log/ci' \
-            'try it: 1 of 3 crates, 0 of 2 must-fail edits (0:0?): other' \
-            'try it: 3 of 3 crates, 0 of 2 must-fail edits (0:0?): high/wrong low/wrong' \
+            'try it: 1 of 3 crates, 0 of 2 must-fail edits (0:0?)' \
+            'try it: 3 of 3 crates, 0 of 2 must-fail edits (0:0?)' \
             'try it: 3 of 3 crates, 2 of 2 must-fail edits (0:0?)'
 }
 
 keeps_every_line() {
-    [ "$(wc -l <"$repo/build/log/ci")" -eq 13 ] && [ "$(tail -n 1 "$repo/build/log/ci")" = '5 passed, 0 failed' ]
+    [ "$(wc -l <"$repo/build/log/ci")" -eq 21 ] && [ "$(tail -n 1 "$repo/build/log/ci")" = '5 passed, 0 failed' ]
 }
 
 knows_the_time_left() {
-    plays 0 passes ci && says 'try it: 1 of 3 crates, 0 of 2 must-fail edits (0:0?, about 0:0[2-4] left): other' &&
-        says 'try it: 3 of 3 crates, 0 of 2 must-fail edits (0:0?, about 0:0[0-2] left): *'
+    plays 0 passes ci && says 'try it: 1 of 3 crates, 0 of 2 must-fail edits (0:0?, about 0:0[2-4] left)' &&
+        says 'try it: 3 of 3 crates, 0 of 2 must-fail edits (0:0?, about 0:0[0-2] left)'
 }
 
 fails() {
-    plays 1 fails check high &&
-        says 'try it: 2 crates; what rt says goes to build/log/check-high' 'try it: FAILED: high NOT PROVED (exit 1, 3 s)' &&
+    plays 1 fails lib high && says 'try it: 2 crates; what rt says goes to build/log/lib-high' &&
         diff "$work/out" - <<'END'
-crates/high/src/lib.rt:4:5: error: it is not proved that 2 ≤ 1
-rt: high NOT PROVED (exit 1, 3 s)
-rt: FAILED: high
-try it: FAILED with status 1, 2 of 2 crates; all that rt said is in build/log/check-high, what it said of CRATE in target/log/CRATE.out
+rt: chose --jobs 2 for low
+fn low::add: proved
+logic=proved functions=1
+rt: chose --jobs 2 for high
+src/lib.rt:4:5: error: it is not proved that 2 ≤ 1
+logic=not-proved functions=1
+try it: FAILED with status 1, 1 of 2 crates; all that rt said is in build/log/lib-high
+END
+}
+
+refuses() {
+    plays 1 refuses ci &&
+        says 'try it: FAILED: high NOT PROVED' \
+            'try it: FAILED: must-fail low/wrong.edit: NOT REFUSED: the crate is still proved with this edit' &&
+        diff "$work/out" - <<'END'
+== high
+src/lib.rt:4:5: error: it is not proved that 2 ≤ 1
+rt: high NOT PROVED
+rt: must-fail low/wrong.edit: NOT REFUSED: the crate is still proved with this edit
+rt: FAILED: high low/wrong.edit
+2 passed, 2 failed
+try it: FAILED with status 1, 2 of 3 crates, 1 of 2 must-fail edits; all that rt said is in build/log/ci
 END
 }
 
 dies() {
-    plays 137 dies check high && grep -q '^try it: FAILED with status 137, 1 of 2 crates;' "$work/out"
+    plays 137 dies ci && grep -q '^try it: FAILED with status 137, 1 of 3 crates, 0 of 2 must-fail edits;' "$work/out"
 }
 
 cannot() {
-    plays 2 cannot check high && grep -qx 'rt: crates.txt: line 3: expected NAME: DEP DEP ...' "$work/out"
+    plays 2 cannot lib high && grep -qx 'rt: crates.txt: line 3: write NAME .*' "$work/out"
 }
 
 writes_archive() {
-    plays 0 archives staticlib high && says 'try it: 2 of 2 crates (0:0?)'
+    plays 0 archives lib high --cpu x86-64 && says 'try it: 0 of 2 crates (0:0?): high' 'try it: 2 of 2 crates (0:0?)'
 }
 
 # One that has ended may wait for its parent.
@@ -123,16 +151,16 @@ runs() { # PROCESS
 # Runs it in a process group of its own, and sends a signal to that. A shell cannot take back that a signal is ignored, so env does.
 is_ended_by() { # SIGNAL STATUS
     local group status=0
-    rm -f "$repo/sleeper"
+    rm -f "$work/sleeper"
     set -m
-    PLAY=$work/goes_on PATH=$work/bin:$PATH env --default-signal "$repo/tools/prove.sh" 'try it' check high &
+    SLEEPER=$work/sleeper PLAY=$work/goes_on PATH=$work/bin:$PATH env --default-signal "$repo/tools/prove.sh" 'try it' lib high &
     group=$!
     set +m
-    until [ -s "$repo/sleeper" ] || ! kill -0 "$group"; do sleep 0.1; done
+    until [ -s "$work/sleeper" ] || ! kill -0 "$group"; do sleep 0.1; done
     kill "-$1" -- "-$group"
     wait "$group" || status=$?
     sleep 0.2
-    [ "$status" -eq "$2" ] && ! runs "$(cat "$repo/sleeper")"
+    [ "$status" -eq "$2" ] && ! runs "$(cat "$work/sleeper")"
 }
 
 goes_on_unread() {
@@ -158,6 +186,7 @@ check 'a run that passes' passes
 check 'the log has all that rt said' keeps_every_line
 check 'the time left, by the last run' knows_the_time_left
 check 'a crate that is not proved' fails
+check 'an rt ci that fails' refuses
 check 'a static library' writes_archive
 check 'rt is killed' dies
 check 'rt does nothing' cannot

@@ -1,5 +1,5 @@
 #!/usr/bin/env bash
-# Tests the program replay, which `rt check replay` builds, on recorded files in which a line is not as it was recorded. Its own test, the
+# Tests the program replay, which `make target/bin/replay` builds, on recorded files in which a line is not as it was recorded. Its own test, the
 # file stdout of its crate, is on files in which none differs. Prints a line for each test.
 set -uo pipefail
 cd "$(dirname "$0")/../.." || exit
@@ -55,7 +55,7 @@ END
 }
 
 [ -x "$replay" ] || {
-    echo "replay: $replay is missing; rt check replay builds it"
+    echo "replay: $replay is missing; make target/bin/replay builds it"
     exit 1
 }
 

@@ -1,15 +1,14 @@
 -- What a booking leaves: a load within the clock, the former tasks with the new one last.
-use Prim.Native.Nat.{ℕ, suc, ◌≤◌, ◌<◌}
+use Prim.Native.Nat.{ℕ, ◌≤◌, ◌<◌}
 use mathlib.Core.Path.{◌≡◌, refl, sym, ap, ◌∙◌}
 use mathlib.Core.Bool.{true, false}
 use mathlib.Core.List.{List, [], ◌∷◌, ◌++◌}
 use native.Mathlib.Omega.{arith}
 use borrow.Author.Tests.{eqb-false, ltb-false}
 use lib.Dec.{eqb, ltb}
-use lib.ListN.{length}
 use Rattle.time.specs.declared.Hertz.{Hertz}
 use Rattle.time.specs.declared.Reading.{Reading}
-use Rattle.time.specs.declared.Reading.TheVariants.{At, Unreadable}
+use Rattle.time.specs.declared.Reading.TheVariants.{At}
 use Rattle.record.specs.Bytes.{Bytes}
 use Rattle.record.specs.Refusals.{first_of}
 use Rattle.record.proofs.Refusals.{NoneRefused, none_refused, not_refused, not_refused_unless}
@@ -17,7 +16,7 @@ use Rattle.task.specs.declared.Task.{Task}
 use Rattle.task.specs.Task.{task_ok, has_id, distinct, InBytes}
 use Rattle.head.specs.declared.Head.{Head}
 use Rattle.head.specs.Head.{booked}
-use Rattle.head.specs.Record.{buffer_bytes, head_refusal, head_of}
+use Rattle.head.specs.Record.{head_refusal, head_of}
 use Rattle.head.specs.Encodable.{Encodable}
 use Rattle.head.proofs.from_bytes.Passed.{passed}
 use Rattle.head.proofs.from_bytes.Decoding.{decode_encodable}

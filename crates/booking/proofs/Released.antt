@@ -3,7 +3,6 @@ use Prim.Native.Nat.{ℕ}
 use mathlib.Core.Path.{◌≡◌, ap, ◌∙◌}
 use mathlib.Core.Bool.{true, false}
 use mathlib.Core.List.{List}
-use lib.ListN.{length}
 use Rattle.record.specs.Bytes.{Bytes}
 use Rattle.task.specs.Task.{has_id, distinct}
 use Rattle.head.specs.declared.Head.{Head}

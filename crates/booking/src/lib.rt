@@ -1,4 +1,6 @@
 // Booking a task on a head, within its clock, releasing one, and looking one up.
+#![tactic(auto)]
+
 pub mod tests;
 
 ghost use Rattle.std.specs.Prelude.{[]};

@@ -1,4 +1,6 @@
 // `calibrate_hrc48` of rcc/clock_config.rs: trims HRC48 until it counts as HXT48 does.
+#![tactic(auto)]
+
 pub mod measure;
 pub mod search;
 

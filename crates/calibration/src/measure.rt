@@ -2,7 +2,7 @@
 ghost use Rattle.std.specs.Prelude.{◌≡◌, ◌≤◌};
 ghost use Rattle.head.specs.Encodable.{Encodable};
 ghost use Rattle.journal.specs.Machine.{Lent, Does, DoesWithoutJournal, taking};
-ghost use Rattle.calibration.specs.measure.{measurement as measurementAt, difference as differenceOf, judged_difference as judgedBy};
+ghost use Rattle.calibration.specs.measure.{measurement as measurement_at, difference as difference_of, judged_difference as judged_by};
 
 use journal::Machine;
 
@@ -10,7 +10,7 @@ use journal::Machine;
 pub fn measurement(m: Machine, journal: &mut [u32], answers: &[u16], trim: u16) -> Machine
     requires lent { Lent 5 m journal.old (taking answers.now) }
     requires trim_bound { trim ≤ 1023 }
-    ensures does { Does 5 (measurementAt trim answers.now) m result journal.old journal.new (taking answers.now) }
+    ensures does { Does 5 (measurement_at trim answers.now) m result journal.old journal.new (taking answers.now) }
     ensures le_taken { result.stop ≡ 0 → 2 ≤ result.taken }
 {
     let m = m.store(journal, register::HRC_TRIM, trim as u32);
@@ -22,7 +22,7 @@ pub fn measurement(m: Machine, journal: &mut [u32], answers: &[u16], trim: u16) 
 
 // How far the counts are apart.
 pub fn difference(hxt: u16, hrc: u16) -> u16
-    ensures { result ≡ differenceOf hxt hrc }
+    ensures { result ≡ difference_of hxt hrc }
 {
     if hxt > hrc {
         return hxt - hrc;
@@ -33,7 +33,7 @@ pub fn difference(hxt: u16, hrc: u16) -> u16
 // 33 where the final difference is above 160.
 pub fn judged(m: Machine, diff: u16) -> Machine
     requires { Encodable m.head }
-    ensures { DoesWithoutJournal (judgedBy diff) m result }
+    ensures { DoesWithoutJournal (judged_by diff) m result }
 {
     if 160 < diff {
         return m.refuse(33);

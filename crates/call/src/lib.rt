@@ -1,4 +1,6 @@
 // Calls on a head's bytes: the tests that they share, and the way from the bytes to a running call and back.
+#![tactic(auto)]
+
 pub mod clocks;
 pub mod store;
 pub mod word;
@@ -18,7 +20,7 @@ pub const JOURNAL_WORDS: usize = 128;
 pub const MOST_ANSWERS: usize = 4096;
 
 // What a call answers: 0 or its refusal, its value, the entries written and the answers taken.
-#[derive(Drop)]
+#[derive(Clone, Copy)]
 pub struct Answer {
     pub refusal: u8,
     pub value: u32,
@@ -27,7 +29,7 @@ pub struct Answer {
 }
 
 // What the first tests of a call answer: 0 and the head, or a refusal and a blank one.
-#[derive(Drop)]
+#[derive(Clone, Copy)]
 pub struct Admitted {
     pub refusal: u8,
     pub head: Head,

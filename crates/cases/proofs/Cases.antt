@@ -8,8 +8,7 @@ use lib.ListN.{set, replicate}
 use Rattle.record.specs.Bytes.{is_within}
 use Rattle.record.specs.Refusals.{first_of}
 use Rattle.clock.specs.Clock.{dll_hz, divided, shifted}
-use Rattle.verdict.specs.declared.Verdict.{Verdict}
-use Rattle.verdict.specs.declared.Verdict.TheVariants.{Accepted, Refused}
+use Rattle.verdict.specs.declared.Verdict.TheVariants.{Accepted}
 use Rattle.dvfs.specs.declared.hpsys.HpsysDvfsMode.TheVariants.{D0, D1, S0, S1}
 use Rattle.dvfs.specs.declared.hpsys.HpsysModeFound.TheVariants.{Mode, OutOfRange}
 use Rattle.dvfs.specs.Hpsys.{mode_of}

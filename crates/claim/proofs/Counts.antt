@@ -7,6 +7,7 @@ use lib.Dec.{eqb, ltb}
 use lib.ListN.{length, drop, length-append}
 use Rattle.time.specs.declared.Reading.{Reading}
 use Rattle.time.specs.declared.Reading.TheVariants.{At, Unreadable}
+use Rattle.time.specs.Frequency.{hz_or}
 use Rattle.clock.specs.declared.Dll.{Dll}
 use Rattle.clock.specs.declared.MaybeDll.{MaybeDll}
 use Rattle.clock.specs.declared.MaybeDll.TheVariants.{Absent, Present}
@@ -14,7 +15,8 @@ use Rattle.plan.specs.declared.Plan.{Plan}
 use Rattle.plan_clocks.specs.Clocks.{hclk_hz}
 use Rattle.register.specs.Word.{byte_b, byte_c}
 use Rattle.clock_read.specs.Hpsys.{reg, hclk_of}
-use Rattle.journal.specs.Run.{Run, Effect, ◌▸◌, idle, unless_ended, delayed, store, delay, Poll, ready_after, never_ready, more, poll, waited, wait}
+use Rattle.clock_read.specs.lpsys.{lpsys_hclk_of}
+use Rattle.journal.specs.Run.{Run, Effect, ◌▸◌, idle, unless_ended, halted, delayed, store, delay, Poll, ready_after, never_ready, more, poll, waited, wait}
 use Rattle.dvfs.specs.declared.hpsys.HpsysDvfsMode.{HpsysDvfsMode}
 use Rattle.dvfs.specs.declared.hpsys.HpsysDvfsMode.TheVariants.{D0, D1, S0, S1}
 use Rattle.dvfs.specs.declared.lpsys.LpsysDvfsMode.{LpsysDvfsMode}
@@ -35,6 +37,10 @@ use Rattle.guard_change.specs.Change.{steps, change}
 use Rattle.lpsys_request.specs.modes.{divider_for, present_mode, request_mode}
 use Rattle.lpsys_request.specs.hdiv.{set_hdiv}
 use Rattle.lpsys_request.specs.Request.{request}
+use Rattle.lpsys_request.specs.slow.{unless_read, refuse_unread, slow_down}
+use Rattle.lpsys_wake.specs.count.{count_up}
+use Rattle.lpsys_wake.specs.Wake.{wake_first, wake}
+use Rattle.clock_lpsys.specs.Calls.{wake_and_slow}
 use Rattle.claim.specs.Moment.{taken_of, taken_for}
 
 -- an effect writes at most `k` entries
@@ -208,8 +214,38 @@ request_writes f r =
     behind S D r = omega (arith, stores 31 0x162 r, stores 28 0 (store 31 0x162 r))
     behind S S r = none 2 r
 
+-- a wake with its slowing
+counts_up : Writes 0 count_up
+unfolding count_up
+counts_up = unless 0 _ (λ r. omega arith)
+
+wakes : (a : List ℕ) → Writes 5 (wake a)
+unfolding wake wake_first
+wakes a r =
+    let r1 = store 33 1 r in
+    let r2 = delay 230 r1 in
+    let r3 = wait 6 a r2 in
+    let r4 = delay 30 r3 in
+    omega (arith, stores 33 1 r, delays 230 r1, waits 6 a r2, delays 30 r3, waits 6 a r4, counts_up (wait 6 a r4))
+
+refuses : Writes 0 refuse_unread
+unfolding refuse_unread halted
+refuses r = by (lpsys_hclk_of r.head) r
+  where
+    by : (f : Reading) → Writes 0 (unless_read f)
+    by (At f) = none 0
+    by Unreadable = unless 0 _ (λ r. omega arith)
+
+slows : Writes 6 slow_down
+unfolding slow_down
+slows r = either 6 (ltb 24000000 (hz_or 0 (lpsys_hclk_of r.head))) (request 24) idle (request_writes 24) (none 6) r
+
+pub wake_and_slow_writes : (a : List ℕ) → Writes 11 (wake_and_slow a)
+unfolding wake_and_slow
+wake_and_slow_writes a r = omega (arith, wakes a r, refuses (wake a r), slows (refuse_unread (wake a r)))
+
 -- a wait takes no more answers than are lent
-taken_most : (a : List ℕ) → taken_of a (poll a) ≤ length a
+pub taken_most : (a : List ℕ) → taken_of a (poll a) ≤ length a
 unfolding poll
 taken_most [] = omega arith
 taken_most (x ∷ a) = by (eqb x 0) (poll a) (taken_most a)

@@ -1,21 +1,26 @@
--- A fit head is safe at that moment.
+-- A fit head is safe at that moment, whatever its wake count.
 use Prim.Native.Nat.{ℕ, ◌≤◌, ◌<◌}
-use mathlib.Core.Path.{◌≡◌, refl, ap, sym, ◌∙◌}
+use mathlib.Core.Path.{◌≡◌, refl}
 use mathlib.Core.Bool.{Bool, true, false, cond}
 use native.Mathlib.Omega.{arith}
-use lib.Dec.{eqb, leb}
+use lib.Dec.{eqb}
 use borrow.Author.Tests.{leb-true}
 use Rattle.time.specs.declared.Reading.{Reading}
-use Rattle.time.specs.declared.Reading.TheVariants.{At, Unreadable}
 use Rattle.head.specs.declared.Head.{Head}
-use Rattle.clock_read.specs.Hpsys.{reg, hertz, hclk_of}
-use Rattle.readings.proofs.Positive.{Least, reads, none, least_hclk}
+use Rattle.head.specs.Head.{with_wake_count}
+use Rattle.clock_read.specs.Hpsys.{reg, hertz, sys_of, hclk_of}
+use Rattle.clock_read.specs.lpsys.{lpsys_sys_of, lpsys_hclk_of}
+use Rattle.readings.proofs.Positive.{Least, reads, least_hclk}
 use Rattle.dvfs.specs.declared.hpsys.HpsysDvfsMode.TheVariants.{D0, D1, S0, S1}
 use Rattle.fit.specs.rail.{met, higher, rail_limit}
-use Rattle.fit.specs.Fit.{within, fits}
+use Rattle.fit.specs.Fit.{fits}
 use Rattle.claim.proofs.changes.View.{begun}
 use Rattle.claim.proofs.requests.Laws.{clock_fit, first_fit, second_fit, lpsys_safe}
 use Rattle.claim.specs.Claim.{Safe}
+
+pub count_fit : (n : ℕ) (h : Head) → fits (with_wake_count n h) ≡ fits h
+unfolding fits hclk_of sys_of rail_limit lpsys_hclk_of lpsys_sys_of
+count_fit n h = refl
 
 -- a rail limit above 0 is at least 24 MHz
 least : (s hi lo hi' lo' : Bool) → 0 < cond s (cond hi 240000000 (cond lo 144000000 0)) (cond hi' 48000000 (cond lo' 24000000 0)) →

@@ -10,3 +10,4 @@ pub mod Given
 pub mod Examples
 pub mod changes
 pub mod requests
+pub mod wakes

@@ -28,10 +28,19 @@ unfoldable pub one_ready : List ℕ → Bool
 one_ready [] = false
 one_ready (x ∷ a) = cond (eqb x 0) (one_ready a) true
 
+-- two of them are: the first that is ready ends a wait, and a later one the next wait
+unfoldable pub two_ready : List ℕ → Bool
+two_ready [] = false
+two_ready (x ∷ a) = cond (eqb x 0) (two_ready a) (one_ready a)
+
 -- "answered done exactly when its plan has no DLL1 or one of the answers lent to it is ready; otherwise it is refused 36"
 abbrev pub stop_for : MaybeDll → List ℕ → ℕ
 stop_for Absent a = 0
 stop_for (Present d) a = cond (one_ready a) 0 36
+
+-- a wake has two waits
+abbrev pub stop_for_wake : List ℕ → ℕ
+stop_for_wake a = cond (two_ready a) 0 36
 
 -- "The result counts all answers taken": up to the first ready one and with it, or all
 abbrev pub taken_of : List ℕ → Poll → ℕ

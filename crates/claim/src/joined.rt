@@ -6,7 +6,7 @@ ghost use Rattle.claim.specs.joined.{Joined};
 use call::Answer;
 use time::Megahertz;
 
-#[derive(Drop)]
+#[derive(Clone, Copy)]
 pub struct Four {
     pub changed: Answer,
     pub booked: Answer,

@@ -1,5 +1,5 @@
 -- Laws of DLL and divider arithmetic.
-use Prim.Native.Nat.{ℕ, zero, ◌+◌, ◌*◌, ◌/◌, ◌^◌, ◌≤◌, ◌<◌}
+use Prim.Native.Nat.{ℕ, zero, ◌/◌, ◌^◌, ◌≤◌, ◌<◌}
 use mathlib.Core.Path.{◌≡◌, refl}
 use mathlib.Core.Bool.{Bool, true, false, cond}
 use native.Mathlib.Omega.{arith}
@@ -7,7 +7,7 @@ use native.Mathlib.Nat.{div-le_self, div-mul-le_self, le-div_iff_mul-le, le_tran
 use lib.Pow.{pow_mono, pow_pos}
 use borrow.Author.Tests.{eqb-false}
 use lib.Dec.{eqb}
-use Rattle.clock.specs.Clock.{whole_hz, dll_hz, divided, shifted}
+use Rattle.clock.specs.Clock.{dll_hz, divided, shifted}
 
 -- a DLL gives 12 to 384 MHz
 pub dll_least : (stage : ℕ) (half : Bool) → 12000000 ≤ dll_hz stage half

@@ -1,4 +1,6 @@
 // rcc/clock.rs: clock constants, the clocks that are read, DLL and divider arithmetic.
+#![tactic(auto)]
+
 ghost use Rattle.std.specs.Prelude.{◌≡◌, ◌≤◌};
 ghost use Rattle.clock.specs.Clock.{dll_hz, divided, shifted};
 
@@ -11,7 +13,7 @@ pub const CLK_LRC32_FREQ: Hertz = Hertz(32_000);
 pub const CLK_HXT48_FREQ: Hertz = Hertz(48_000_000);
 
 // The 15 frequencies of a head, in the order of the source.
-#[derive(Drop)]
+#[derive(Clone, Copy)]
 pub struct Clocks {
     pub sysclk: MaybeHertz,
     pub hclk: MaybeHertz,
@@ -31,14 +33,14 @@ pub struct Clocks {
 }
 
 // A DLL's setting: its stage, 0 to 15, and whether its output is halved.
-#[derive(Drop)]
+#[derive(Clone, Copy)]
 pub struct Dll {
     pub stage: u8,
     pub half: bool,
 }
 
 // A DLL that a plan has or has not.
-#[derive(Drop)]
+#[derive(Clone, Copy)]
 pub enum MaybeDll {
     Absent,
     Present(Dll),

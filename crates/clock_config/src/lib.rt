@@ -1,4 +1,6 @@
 // The calls of rcc/clock_config.rs on lent bytes: the calibration, the initialisation and a change of the core's clock.
+#![tactic(auto)]
+
 ghost use Rattle.std.specs.Prelude.{◌≡◌};
 ghost use Rattle.call.specs.Call.{Answers};
 ghost use Rattle.clock_config.specs.calibrate.{calibration};

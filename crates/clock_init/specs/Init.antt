@@ -1,12 +1,12 @@
 -- `init` of rcc/clock_config.rs, as a run.
-use Rattle.core.specs.Prelude.{ℕ, cond, List, ◌==◌}
+use Rattle.std.specs.Prelude.{ℕ, cond, List, ◌==◌}
 use Rattle.plan.specs.declared.Plan.{Plan}
 use Rattle.head.specs.declared.Head.{Head}
 use Rattle.journal.specs.Run.{Run, Effect, idle, ◌▸◌}
 use Rattle.init_first.specs.begin.{init_begin}
 use Rattle.init_first.specs.warning.{warning}
 use Rattle.init_first.specs.First.{boot_stores, calibrating, init_first}
-use Rattle.clock_init.specs.core.{init_clock}
+use Rattle.clock_init.specs.from_core.{init_clock}
 
 -- all of it but for what every boot does
 unfoldable pub boot : Plan → List ℕ → Effect

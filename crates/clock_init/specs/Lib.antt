@@ -1,3 +1,3 @@
 pub mod Init
 pub mod Told
-pub mod core
+pub mod from_core

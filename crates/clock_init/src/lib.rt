@@ -1,7 +1,9 @@
 // rcc/clock_config.rs, `init` on a running call.
-pub mod core;
+#![tactic(auto)]
 
-ghost use Rattle.core.specs.Prelude.{◌≡◌, ◌≤◌, true};
+pub mod from_core;
+
+ghost use Rattle.std.specs.Prelude.{◌≡◌, ◌≤◌, true};
 ghost use Rattle.plan.specs.Plan.{legal};
 ghost use Rattle.plan_clocks.specs.Clocks.{target_of};
 ghost use Rattle.journal.specs.Run.{◌▸◌};
@@ -23,7 +25,7 @@ fn boot(m: Machine, journal: &mut [u32], answers: &[u16], p: Plan, target: Targe
 {
     let first = init_first::init_first(m, journal, answers, p);
     let m = first.machine;
-    let machine = core::init_clock(m, journal, answers, p, target);
+    let machine = from_core::init_clock(m, journal, answers, p, target);
     Calibrated {
         machine,
         warning: first.warning,

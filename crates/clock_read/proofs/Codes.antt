@@ -1,6 +1,5 @@
 -- What the codes of a head's registers say of its readings.
 use Prim.Native.Nat.{ℕ, ◌≤◌, ◌<◌}
-use mathlib.Core.Path.{◌≡◌}
 use native.Mathlib.Omega.{arith}
 use lib.ListN.{get_or}
 use Rattle.record.proofs.Bytes.{within_at}

@@ -1,8 +1,6 @@
 -- HCLK is at most 384 MHz, whatever a head's registers select.
 use Prim.Native.Nat.{ℕ, ◌≤◌}
-use mathlib.Core.Path.{◌≡◌, refl}
 use mathlib.Core.Bool.{Bool, true, false, cond}
-use native.Mathlib.Omega.{arith}
 use native.Mathlib.Nat.{le_trans}
 use lib.Dec.{eqb, lit≤}
 use Rattle.time.specs.declared.Hertz.{Hertz}

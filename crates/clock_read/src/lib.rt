@@ -1,4 +1,6 @@
 // rcc/clock_read.rs: frequencies of HPSYS read from a head, up to HCLK.
+#![tactic(auto)]
+
 pub mod buses;
 pub mod devices;
 pub mod lpsys;

@@ -1,4 +1,6 @@
 // rcc/clock_config.rs: the steps that set the core clock as a plan has it.
+#![tactic(auto)]
+
 pub mod dividers;
 pub mod switch;
 

@@ -5,7 +5,7 @@ ghost use Rattle.digits.specs.hexadecimal.{digit_of, pair_of, glyph_of, hex_digi
 // More than the value of any digit.
 const NO_DIGIT: u8 = 16;
 
-#[derive(Drop)]
+#[derive(Clone, Copy)]
 pub enum Pair {
     Byte(u8),
     Malformed,

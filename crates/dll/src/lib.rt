@@ -1,4 +1,6 @@
 // rcc/clock_config.rs, `configure_dll1`: a DLL set anew, DLL1 or DLL2 by the number of its register.
+#![tactic(auto)]
+
 pub mod words;
 
 ghost use Rattle.std.specs.Prelude.{◌≤◌};

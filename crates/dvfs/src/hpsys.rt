@@ -15,7 +15,7 @@ pub const HPSYS_DVFS_MODE_S0_LIMIT: u32 = 144;
 pub const HPSYS_DVFS_MODE_S1_LIMIT: u32 = 240;
 
 // A supply row: the D mode's ldo as an offset on a reference, the S mode's ldo, the buck, and the memory timing as register 17 holds it.
-#[derive(Drop)]
+#[derive(Clone, Copy)]
 pub struct HpsysDvfsConfig {
     pub ldo_offset: i8,
     pub ldo: u8,
@@ -23,7 +23,7 @@ pub struct HpsysDvfsConfig {
     pub ulpmcr: u32,
 }
 
-#[derive(Drop)]
+#[derive(Clone, Copy)]
 pub enum HpsysDvfsMode {
     D0,
     D1,
@@ -32,7 +32,7 @@ pub enum HpsysDvfsMode {
 }
 
 // The mode of a frequency, none above 240 MHz.
-#[derive(Drop)]
+#[derive(Clone, Copy)]
 pub enum HpsysModeFound {
     Mode(HpsysDvfsMode),
     OutOfRange,

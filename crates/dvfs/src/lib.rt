@@ -1,4 +1,6 @@
 // pmu/dvfs.rs: the supply modes of HPSYS and, in `lpsys`, of LPSYS, with their tables.
+#![tactic(auto)]
+
 mod hpsys;
 pub mod limits;
 pub mod lpsys;

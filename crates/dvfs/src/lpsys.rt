@@ -11,20 +11,20 @@ pub const LPSYS_DVFS_MODE_D_LIMIT: u32 = 24;
 pub const LPSYS_DVFS_MODE_S_LIMIT: u32 = 48;
 
 // A supply row: the ldo, and the memory timing as register 31 holds it.
-#[derive(Drop)]
+#[derive(Clone, Copy)]
 pub struct LpsysDvfsConfig {
     pub ldo: u8,
     pub ulpmcr: u32,
 }
 
-#[derive(Drop)]
+#[derive(Clone, Copy)]
 pub enum LpsysDvfsMode {
     D,
     S,
 }
 
 // The mode of a frequency, none above 48 MHz.
-#[derive(Drop)]
+#[derive(Clone, Copy)]
 pub enum LpsysModeFound {
     Mode(LpsysDvfsMode),
     OutOfRange,

@@ -1,4 +1,6 @@
 // pmu/dvfs.rs: `config_hcpu_dvfs`, the half of the supply transition of HPSYS before the clock is set and the one after it.
+#![tactic(auto)]
+
 pub mod switch;
 pub mod volts;
 

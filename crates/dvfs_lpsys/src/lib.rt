@@ -1,4 +1,6 @@
 // pmu/dvfs.rs: the halves of a supply transition of LPSYS, before and after the clock is set.
+#![tactic(auto)]
+
 pub mod switch;
 
 ghost use Rattle.journal.specs.Machine.{Lent, Does, none};

@@ -1,4 +1,6 @@
 // Whether a head is fit: its clocks within its supplies, and no flash clock from a DLL that is off.
+#![tactic(auto)]
+
 pub mod rail;
 
 ghost use Rattle.std.specs.Prelude.{◌≡◌};

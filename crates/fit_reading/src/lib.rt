@@ -1,4 +1,6 @@
 // The rail limit, the load and what makes a head unfit, read from its bytes.
+#![tactic(auto)]
+
 ghost use Rattle.std.specs.Prelude.{◌≡◌};
 ghost use Rattle.head.specs.Record.{head_refusal, head_of};
 ghost use Rattle.head.specs.Encodable.{Encodable};

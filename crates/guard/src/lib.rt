@@ -1,4 +1,6 @@
 // The guarded change on lent bytes.
+#![tactic(auto)]
+
 pub mod tests;
 
 ghost use Rattle.call.specs.Call.{Answers};

@@ -1,4 +1,6 @@
 // The guarded change on a running call: the peak of its supply, then its two halves.
+#![tactic(auto)]
+
 ghost use Rattle.std.specs.Prelude.{◌≡◌, true};
 ghost use Rattle.plan.specs.Plan.{legal};
 ghost use Rattle.plan_clocks.specs.Clocks.{hclk_hz};

@@ -1,4 +1,6 @@
 // The steps of the guarded change that move the flash selects and the core's.
+#![tactic(auto)]
+
 pub mod flash;
 pub mod peak;
 pub mod supply;

@@ -1,5 +1,5 @@
 -- The head record and its refusals.
-use Rattle.std.specs.Prelude.{ℕ, ◌+◌, ◌*◌, ◌/◌, ◌%◌, Bool, false, not, ◌&&◌, List, [], ◌∷◌, ◌++◌, eqb, leb, length, get_or, take, drop, replicate}
+use Rattle.std.specs.Prelude.{ℕ, ◌/◌, ◌%◌, Bool, false, not, ◌&&◌, List, [], ◌∷◌, ◌++◌, eqb, leb, length, get_or, take, drop, replicate}
 use Rattle.record.specs.Bytes.{two_bytes, is_within, bit}
 use Rattle.record.specs.Refusals.{refuse, first_of}
 use Rattle.record.specs.Items.{joined}

@@ -9,7 +9,7 @@ use crate::Head;
 use task::Task;
 
 // What decoding answers: a refusal, 0 for none, and the head, blank on a refusal.
-#[derive(Drop)]
+#[derive(Clone, Copy)]
 pub struct Decoded {
     pub refusal: u8,
     pub head: Head,

@@ -1,11 +1,13 @@
 // A head as a value: 34 registers, ready flags and booked tasks.
+#![tactic(auto)]
+
 pub mod from_bytes;
 pub mod tasks;
 pub mod to_bytes;
 
 pub use task::Task;
 
-#[derive(Drop)]
+#[derive(Clone, Copy)]
 pub struct Head {
     // Register n at index n, each its 24-bit value; number 0 is unused and 0.
     pub regs: [u32; 35],

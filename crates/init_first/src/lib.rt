@@ -1,4 +1,6 @@
 // rcc/clock_config.rs, `init` before the core clock, on all but a standby boot: the low-power clocks, calibration.
+#![tactic(auto)]
+
 pub mod begin;
 pub mod warning;
 

@@ -7,7 +7,7 @@ ghost use Rattle.init_first.specs.warning.{is_warning, warning, swallowed};
 use journal::Machine;
 
 // A machine that has been calibrated, and 0, or the 31 or 33 that was swallowed.
-#[derive(Drop)]
+#[derive(Clone, Copy)]
 pub struct Calibrated {
     pub machine: Machine,
     pub warning: u8,

@@ -1,4 +1,6 @@
 // rcc/clock_config.rs, `init` after the core clock: DLL2, then USB and the other selects.
+#![tactic(auto)]
+
 pub mod flash;
 pub mod selects;
 

@@ -1,11 +1,12 @@
--- What functions over the machine promise, put together: `_then_` for two calls, `lent-after` for what the next call is lent.
-use Prim.Native.Nat.{ℕ, ◌+◌, ◌-◌, ◌≤◌}
+-- What functions over the machine promise, put together: `_then_` for two calls, `lent_after` for what the next call is lent.
+use Prim.Native.Nat.{ℕ, ◌+◌, ◌≤◌}
 use native.Mathlib.Omega.{arith}
 use mathlib.Core.Path.{◌≡◌, refl, ap, ◌∙◌}
 use mathlib.Core.List.{List}
 use lib.ListN.{length, take, length-append, length-drop, take-append-drop}
 use lib.Seq.{length-take-le}
 use Rattle.head.specs.declared.Head.{Head}
+use Rattle.head.specs.Encodable.{Encodable}
 use Rattle.journal.specs.declared.Machine.{Machine}
 use Rattle.journal.specs.Run.{Run, Effect, idle, ◌▸◌}
 use Rattle.journal.specs.Machine.{machine_of, Reached, Answers, none, taking, InHand, Took, Lent, Does, DoesWithoutJournal}
@@ -102,3 +103,10 @@ takes_none s d = record { ran = d.ran; room = d.room; encodable = d.encodable; a
 -- a function that is lent no journal, where there is one
 pub beside : {f : Effect} {m m' : Machine} {j : List ℕ} → DoesWithoutJournal f m m' → Does 0 f m m' j j none
 beside d = record { ran = d.ran _; room = omega (arith, d.room); encodable = d.encodable; answers = d.answers }
+
+-- of functions that are lent no journal: the same under another name of its effect, and nothing done
+pub alone_as : {f g : Effect} {m m' : Machine} → ((r : Run) → m ≡ machine_of r → f r ≡ g r) → DoesWithoutJournal f m m' → DoesWithoutJournal g m m'
+alone_as same d = record { ran = λ j. ran_as same (d.ran j); room = d.room; encodable = d.encodable; answers = d.answers }
+
+pub alone_nothing : {m : Machine} → Encodable m.head → DoesWithoutJournal idle m m
+alone_nothing ok = record { ran = λ j. ran_idle _ j; room = omega arith; encodable = ok; answers = refl }

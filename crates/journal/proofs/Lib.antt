@@ -2,6 +2,7 @@ pub mod Reached
 pub mod Stores
 pub mod Delays
 pub mod Replay
+pub mod Mute
 pub mod Moments
 pub mod Does
 pub mod Framed

@@ -1,6 +1,6 @@
 -- What holds at every moment of a run: before its first entry and after each one.
-use Prim.Native.Nat.{ℕ, ◌+◌, ◌*◌, ◌≤◌, ◌<◌}
-use mathlib.Core.Path.{◌≡◌, refl, sym, subst}
+use Prim.Native.Nat.{ℕ, zero, suc, ◌+◌, ◌*◌, ◌≤◌, ◌<◌}
+use mathlib.Core.Path.{◌≡◌, refl, ap, sym, ◌∙◌, subst}
 use mathlib.Core.Bool.{Bool, true, false, cond}
 use mathlib.Core.List.{List, [], ◌∷◌, ◌++◌}
 use native.Mathlib.Omega.{arith}
@@ -13,8 +13,9 @@ use Rattle.time.specs.declared.Reading.TheVariants.{At, Unreadable}
 use Rattle.clock_read.specs.Hpsys.{hclk_of}
 use Rattle.head.specs.declared.Head.{Head}
 use Rattle.head.specs.Head.{stored}
-use Rattle.journal.specs.Run.{Run, begin, unless_ended, entry, with_entry, with_head, store, cycles, delayed, delay, Poll, ready_after, never_ready, poll, waited, wait, replayed}
+use Rattle.journal.specs.Run.{Run, begin, unless_ended, entry, with_entry, with_head, store, cycles, delayed, delay, Poll, ready_after, never_ready, poll, waited, wait, applied, replayed}
 use Rattle.journal.proofs.Replay.{Replayed, replays_store, replays_delay, replays_wait}
+use Rattle.journal.proofs.Mute.{placed}
 
 -- `P` holds of the registers at each moment of the run `r` of a call that got the registers `l`, and the last are the run's
 pub record Moments (P : List ℕ → Type 0) (l : List ℕ) (r : Run) : Type 0 where
@@ -94,3 +95,32 @@ moments_map P Q l r f m = record { each = λ k. f _ (m.each k); last = m.last }
 
 pub moments_both : (P Q : List ℕ → Type 0) (l : List ℕ) (r : Run) → Moments P l r → Moments Q l r → Moments (λ (regs : List ℕ). P regs × Q regs) l r
 moments_both P Q l r m n = record { each = λ k. (m.each k, n.each k); last = m.last }
+
+-- one run after another: the second began with the registers that the first left
+each_joined : (P : List ℕ → Type 0) (l xs ys : List ℕ) → ((k : ℕ) → P (replayed l (take k xs))) → ((k : ℕ) → P (replayed (replayed l xs) (take k ys))) →
+    (k : ℕ) → P (replayed l (take k (xs ++ ys)))
+unfolding replayed
+each_joined P l [] ys p q k = q k
+each_joined P l (x ∷ xs) ys p q zero = p 0
+each_joined P l (x ∷ xs) ys p q (suc k) = each_joined P (applied l x) xs ys (λ n. p (suc n)) q k
+
+replayed_joined : (l xs ys : List ℕ) → replayed l (xs ++ ys) ≡ replayed (replayed l xs) ys
+unfolding replayed
+replayed_joined l [] ys = refl
+replayed_joined l (x ∷ xs) ys = replayed_joined (applied l x) xs ys
+
+pub moments_joined : (P : List ℕ → Type 0) (l : List ℕ) (r q : Run) (t : ℕ) → Moments P l r → Moments P r.head.regs q → Moments P l (placed r.entries t q)
+moments_joined P l r q t m n = record {
+  each = each_joined P l r.entries q.entries m.each
+      (λ k. subst (λ (regs : List ℕ). P (replayed regs (take k q.entries))) (sym m.last.registers) (n.each k));
+  last = record {
+    registers = replayed_joined l r.entries q.entries ∙ (ap (λ (regs : List ℕ). replayed regs q.entries) m.last.registers ∙ n.last.registers);
+  };
+}
+
+-- the same entries and registers, whatever else is another
+pub moments_same : (P : List ℕ → Type 0) (l : List ℕ) (r q : Run) → q.entries ≡ r.entries → q.head.regs ≡ r.head.regs → Moments P l r → Moments P l q
+moments_same P l r q e f m = record {
+  each = λ k. subst (λ (es : List ℕ). P (replayed l (take k es))) (sym e) (m.each k);
+  last = record { registers = ap (replayed l) e ∙ (m.last.registers ∙ sym f) };
+}

@@ -1,16 +1,18 @@
 // A running call: stores and delays over the head by value, each writing its entry into the lent journal.
 // A step of the machine makes the next one at one place, whether the call has ended or not: at two, the
 // head would be copied twice.
+#![tactic(auto)]
+
 ghost use Rattle.std.specs.Prelude.{◌≡◌, true, ◌<◌, ◌≤◌};
 ghost use Rattle.register.specs.Codes.{fits_register};
 ghost use Rattle.head.specs.Encodable.{Encodable};
-ghost use Rattle.journal.specs.Run.{cycles as cyclesOf, unless_ended, with_entry, halted, store, delay};
+ghost use Rattle.journal.specs.Run.{cycles as cycles_of, unless_ended, with_entry, halted, store, delay};
 ghost use Rattle.journal.specs.Machine.{Lent, Does, DoesWithoutJournal, none};
 
 use head::Head;
 use time::{Hertz, Reading};
 
-#[derive(Drop)]
+#[derive(Clone, Copy)]
 pub struct Machine {
     pub head: Head,
     // The entries written.
@@ -85,7 +87,7 @@ impl Machine {
 // The cycles of a delay, rounded up, so that it is never short.
 fn cycles(f: Hertz, us: u32) -> u32
     requires { (f.0 ≤ 384000000) × (us ≤ 1000) }
-    ensures { (result ≡ cyclesOf f.0 us) × (result ≤ 384000) }
+    ensures { (result ≡ cycles_of f.0 us) × (result ≤ 384000) }
 {
     let hertz = f.0;
     (((hertz as u64) * (us as u64) + 999_999) / 1_000_000) as u32

@@ -1,4 +1,5 @@
 // The layout of a head record: the places of its bytes, its sizes and its lengths.
+#![tactic(auto)]
 
 // The length has places 0 and 1.
 pub const VERSION_AT: usize = 2;

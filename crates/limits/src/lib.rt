@@ -1,5 +1,7 @@
 // Tests 4 to 14 of `ConfigBuilder::check`, one function each, one for 6 and 7. 4 to 8, a source that the plan does not have, are in
 // `sources`; 9 to 14, a frequency outside its limits, are here and, from 12 on, in `buses`.
+#![tactic(auto)]
+
 pub mod buses;
 pub mod sources;
 

@@ -6,7 +6,7 @@ ghost use Rattle.load.specs.check.{load_check, check_word};
 const LISTED_SIZE: usize = 9;
 
 // 0 and the load, or the refusal and 0.
-#[derive(Drop)]
+#[derive(Clone, Copy)]
 pub struct Checked {
     pub refusal: u8,
     pub load: u64,

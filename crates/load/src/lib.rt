@@ -1,4 +1,6 @@
 // The share of a task, and the load of a list of tasks.
+#![tactic(auto)]
+
 pub mod check;
 
 ghost use Rattle.std.specs.Prelude.{◌≡◌, ◌≤◌, length, take};
@@ -9,7 +11,8 @@ use task::Task;
 
 // The share of a task, rounded up; 0 where the period is 0.
 pub fn share(cycles: u32, period: u32) -> u64
-    ensures { result ≡ share_of cycles period }
+    ensures share { result ≡ share_of cycles period }
+    ensures small { result ≤ 4294971590967296 }
 {
     if period == 0 {
         return 0;

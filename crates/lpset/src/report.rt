@@ -1,58 +1,52 @@
 // What `lpset` writes.
 use digits::hex::six_digits;
-use libc::{STDERR_FILENO, STDOUT_FILENO};
+use std::io;
 use time::MaybeHertz;
 
-fn say(text: &[u8]) {
-    io::write_all(STDOUT_FILENO, text);
+fn say<R: Print>(rt: &R, text: &[u8]) -> io::Result<()> {
+    rt.write_all(text)
 }
 
 // An entry's number, and its value in six digits.
-fn entry(word: u32) {
+fn entry<R: Print>(rt: &R, word: u32) -> io::Result<()> {
     let digits = six_digits(word % 16777216);
-    io::print_decimal(STDOUT_FILENO, (word / 16777216) as u64);
-    say(b" ");
-    say(&digits);
-    say(b"\n");
+    print!(rt; "{} ", word / 16777216)?;
+    say(rt, &digits)?;
+    say(rt, b"\n")
 }
 
 // How many entries there are, and a line for each.
-pub fn steps(entries: &[u32]) {
-    say(b"steps ");
-    io::print_decimal(STDOUT_FILENO, entries.len() as u64);
-    say(b"\n");
-    let mut i = 0;
-    while i < entries.len() {
-        entry(entries[i]);
-        i += 1;
+pub fn steps<R: Print>(rt: &R, entries: &[u32]) -> io::Result<()> {
+    println!(rt; "steps {}", entries.len())?;
+    for word in entries {
+        entry(rt, *word)?;
     }
+    Ok(())
 }
 
-fn refusal_or_done(refusal: u8) {
+fn refusal_or_done<R: Print>(rt: &R, refusal: u8) -> io::Result<()> {
     if refusal == 0 {
-        say(b"done");
-        return;
+        return say(rt, b"done");
     }
-    io::print_decimal(STDOUT_FILENO, refusal as u64);
+    print!(rt; "{refusal}")
 }
 
-fn hertz_or_dash(frequency: MaybeHertz) {
+fn hertz_or_dash<R: Print>(rt: &R, frequency: MaybeHertz) -> io::Result<()> {
     let hertz = frequency.0;
     if hertz == 0 {
-        say(b"-");
-        return;
+        return say(rt, b"-");
     }
-    io::print_decimal(STDOUT_FILENO, hertz as u64);
+    print!(rt; "{hertz}")
 }
 
 // The last line: done or the refusal, and LPSYS HCLK in Hz or a dash for none.
-pub fn result(refusal: u8, hclk: MaybeHertz) {
-    refusal_or_done(refusal);
-    say(b" ");
-    hertz_or_dash(hclk);
-    say(b"\n");
+pub fn result<R: Print>(rt: &R, refusal: u8, hclk: MaybeHertz) -> io::Result<()> {
+    refusal_or_done(rt, refusal)?;
+    say(rt, b" ")?;
+    hertz_or_dash(rt, hclk)?;
+    say(rt, b"\n")
 }
 
-pub fn usage() {
-    io::write_all(STDERR_FILENO, b"usage: lpset HEAD-FILE MHZ\n");
+pub fn usage<R: Eprint>(rt: &R) -> io::Result<()> {
+    eprintln!(rt; "usage: lpset HEAD-FILE MHZ")
 }

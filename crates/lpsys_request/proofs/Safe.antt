@@ -171,3 +171,14 @@ module _ (f : ℕ) (h : Head) (ok : Encodable h) (p : 1 ≤ f) where
         by D e (no n) = rw (e, request_s f (omega arith) q) d_to_s
         by S e (yes n) = rw (e, request_d f n) (s_to_d n)
         by S e (no n) = rw (e, request_s f (omega arith) q) (s_to_s e)
+
+    -- a request of at most 24 MHz leaves no more
+    pub request_slow : f ≤ 24 → lpsys_hz (request f (begin h)).head.regs ≤ 24000000
+    unfolding request set_hdiv lpsys_s2d_first lpsys_s2d_second lpsys_hz store unless_ended
+    request_slow n = by (present_mode h) refl
+      where
+        by : (m : LpsysDvfsMode) → present_mode h ≡ m → lpsys_hz (request f (begin h)).head.regs ≤ 24000000
+        by D e = rw (e, request_d f n, get_or-set_same l 26 (word h) 0 (omega (arith, ok.words)), word_a h) (slow (divider_for f h) (divider_slow f h p n))
+        by S e =
+            let left = moments_now KeptLpsys l (store 28 0 r31) (s_to_d n) in
+            rw (e, request_d f n) (left.safe.limit (get_or-set_same r31.head.regs 28 0 0 (omega (arith, sym (length-set r31.head.regs 28 0) ∙ left.words))))

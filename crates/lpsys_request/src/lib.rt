@@ -1,4 +1,6 @@
 // The LPSYS request on a running call: the divider, and the halves of the transition round it.
+#![tactic(auto)]
+
 pub mod frequency;
 pub mod hdiv;
 pub mod modes;

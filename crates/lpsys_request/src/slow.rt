@@ -1,9 +1,22 @@
-// rcc/clock_lpsys.rs, `ensure_safe_lcpu_frequency` on a running call.
-ghost use Rattle.journal.specs.Machine.{Lent, Does, none};
-ghost use Rattle.lpsys_request.specs.slow.{slow_down};
+// rcc/clock_lpsys.rs, `ensure_safe_lcpu_frequency` on a running call, and its refusal.
+ghost use Rattle.head.specs.Encodable.{Encodable};
+ghost use Rattle.journal.specs.Machine.{Lent, Does, DoesWithoutJournal, none};
+ghost use Rattle.lpsys_request.specs.slow.{refuse_unread, slow_down};
 
 use journal::Machine;
-use time::{Hertz, Megahertz};
+use time::{Hertz, Megahertz, Reading};
+
+// 43 where LPSYS HCLK does not read.
+pub fn refuse_unread(m: Machine) -> Machine
+    requires { Encodable m.head }
+    ensures { DoesWithoutJournal refuse_unread m result }
+{
+    let head = m.head;
+    let Reading::At(_) = clock_read::lpsys::get_lpsys_hclk_freq(head) else {
+        return m.refuse(43);
+    };
+    m
+}
 
 // A request of 24 MHz where LPSYS is faster.
 pub fn slow_down(m: Machine, journal: &mut [u32]) -> Machine

@@ -1,4 +1,6 @@
 // The tests of what the calls of rcc/clock_lpsys.rs are given. Each answers 0, or the refusal.
+#![tactic(auto)]
+
 pub mod words;
 
 ghost use Rattle.std.specs.Prelude.{◌≡◌};

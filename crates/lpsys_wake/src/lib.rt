@@ -1,4 +1,6 @@
 // Waking the LPSYS core, and cancelling that, on a running call.
+#![tactic(auto)]
+
 pub mod count;
 pub mod hxt48;
 

@@ -1,4 +1,6 @@
 // A moment: the stores of entries put into a head's bytes.
+#![tactic(auto)]
+
 pub mod entry;
 
 ghost use Rattle.std.specs.Prelude.{◌≡◌, []};

@@ -7,7 +7,7 @@ use crate::Plan;
 use clock::{Dll, MaybeDll};
 
 // What the bytes of a record hold.
-#[derive(Drop)]
+#[derive(Clone, Copy)]
 pub enum Decoded {
     Read(Plan),
     // Refusal 1, 2 or 3.

@@ -1,4 +1,6 @@
 // A plan as a value: rcc/clock_config.rs, `ConfigBuilder`.
+#![tactic(auto)]
+
 pub mod bytes;
 pub mod codes;
 pub mod tests;
@@ -6,7 +8,7 @@ pub mod tests;
 use clock::MaybeDll;
 
 // A plan, its fields under the names of the source and in the record's codes.
-#[derive(Drop)]
+#[derive(Clone, Copy)]
 pub struct Plan {
     pub sys: u8,
     pub hdiv: u8,

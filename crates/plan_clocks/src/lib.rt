@@ -1,4 +1,6 @@
 // The clocks that a plan gives: rcc/clock_config.rs, `get_sysclk_freq_hz`, `get_hclk_freq_hz` and the sums in `check`.
+#![tactic(auto)]
+
 ghost use Rattle.std.specs.Prelude.{◌≡◌, cond, ◌≤◌, ◌/◌};
 ghost use Rattle.plan.specs.Code.{stage_of};
 ghost use Rattle.plan_clocks.specs.Clocks.{maybe_hz, maybe_whole_hz, sys_hz, usb_hz, sources_of, target_of};
@@ -12,14 +14,14 @@ const DLL1: u8 = 3;
 const USB_DLL2: u8 = 1;
 
 // The clocks that HCLK and USB are divided from.
-#[derive(Drop)]
+#[derive(Clone, Copy)]
 pub struct Sources {
     pub core: Hertz,
     pub usb: Hertz,
 }
 
 // What an accepted plan gives. The USB divider of a plan without USB is 0.
-#[derive(Drop)]
+#[derive(Clone, Copy)]
 pub struct Target {
     pub hclk: Hertz,
     pub pclk1: Hertz,

@@ -47,7 +47,7 @@ use Rattle.init_first.specs.warning.{is_warning, swallowed}
 use Rattle.init_first.specs.First.{boot_stores, leave_hrc48_on, leave_hrc48, calibrating, init_first}
 use Rattle.init_rest.specs.selects.{planned_usb, planned_muxes}
 use Rattle.init_rest.specs.Rest.{is_set, move_dll2, set_dll2_on, set_dll2, planned_dll2, init_rest}
-use Rattle.clock_init.specs.core.{init_clock}
+use Rattle.clock_init.specs.from_core.{init_clock}
 use Rattle.clock_init.specs.Init.{boot, init_on, init}
 use Rattle.lpsys_wake.specs.count.{counted, count_up}
 use Rattle.lpsys_wake.specs.hxt48.{request_hxt48_unless, request_hxt48, request_lpsys_hxt48_unless, request_lpsys_hxt48, hxt48_ready}

@@ -1,19 +1,16 @@
 -- No frequency that reads is 0, where the source would panic.
-use Prim.Native.Nat.{ℕ, ◌/◌, ◌≤◌, ◌<◌}
-use mathlib.Core.Path.{◌≡◌, refl}
+use Prim.Native.Nat.{ℕ, ◌/◌, ◌≤◌}
 use mathlib.Core.Bool.{Bool, true, false, cond}
 use native.Mathlib.Omega.{arith}
 use native.Mathlib.Nat.{le_trans}
 use lib.Dec.{eqb}
-use lib.ListN.{get_or}
 use Rattle.time.specs.declared.Hertz.{Hertz}
 use Rattle.time.specs.declared.Reading.{Reading}
 use Rattle.time.specs.declared.Reading.TheVariants.{At, Unreadable}
-use Rattle.clock.specs.Clock.{dll_hz}
 use Rattle.clock.proofs.Laws.{dll_least, divided_least, shifted_least}
 use Rattle.head.specs.declared.Head.{Head}
 use Rattle.register.specs.Word.{word_bytes, byte_a, byte_b, byte_c}
-use Rattle.register.specs.Codes.{largest, codes_of}
+use Rattle.register.specs.Codes.{largest}
 use Rattle.head.specs.Encodable.{Encodable}
 use Rattle.clock_read.specs.Hpsys.{reg, hertz, ready_reading, dll_reading, divided_reading, sys_of, hclk_of}
 use Rattle.clock_read.specs.devices.{usb_source, usb_of, wdt_of, flash_of}

@@ -1,4 +1,6 @@
 // The frequencies of a head in their order, and the calls that read them from its bytes.
+#![tactic(auto)]
+
 pub mod hclk;
 
 ghost use Rattle.std.specs.Prelude.{◌≡◌};

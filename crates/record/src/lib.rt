@@ -1,4 +1,6 @@
 // The bytes of a record: numbers of two and of four bytes, the largest value that each byte may hold, and bytes written at a place.
+#![tactic(auto)]
+
 ghost use Rattle.std.specs.Prelude.{◌≡◌, ◌+◌, ◌≤◌, length, drop};
 ghost use Rattle.record.specs.Bytes.{two_bytes, is_within};
 ghost use Rattle.record.specs.Items.{laid};

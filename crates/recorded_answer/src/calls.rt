@@ -24,8 +24,8 @@ pub fn compare(
     text: &mut [u8],
 ) -> Outcome
     requires { (answer.entries ≤ length journal.now) × (shown ≤ 15) }
-    ensures answer_within { AnswerWithin result (length text.old) }
-    ensures line_value { result ≡ Outcome.Same → line.now ≡
+    ensures within { AnswerWithin result (length text.old) }
+    ensures same { result ≡ Outcome.Same → line.now ≡
         given_text name.now argument.now buffer.now answers.now (take shown former)
         ++ left_text answer left.now journal.now (take shown clocks) }
 {

@@ -1,4 +1,6 @@
 // Our answers as text, compared with the lines that record the wanted ones.
+#![tactic(auto)]
+
 pub mod calls;
 pub mod given;
 pub mod left;
@@ -7,7 +9,7 @@ pub mod loads;
 ghost use Rattle.std.specs.Prelude.{◌≤◌, ◌≡◌, true, length};
 ghost use Rattle.recorded_answer.specs.Answer.{AnswerWithin, Keeps, Matches};
 
-#[derive(Drop)]
+#[derive(Clone, Copy)]
 pub enum Outcome {
     Same,
     // Our answer stands in the text from `from` up to `to`.
@@ -44,13 +46,13 @@ pub fn compare(
     end: usize,
 ) -> Outcome
     requires { (from ≤ end) × (end ≤ length text.now) }
-    ensures answer_within { AnswerWithin result (length text.now) }
-    ensures cases { result ≡ Outcome.Same → Matches line.now journal.now entries text.now end }
+    ensures within { AnswerWithin result (length text.now) }
+    ensures same { result ≡ Outcome.Same → Matches line.now journal.now entries text.now end }
 {
     if !keeps(journal, entries) {
         return Outcome::Overwritten;
     }
-    if end < text.len() && check::same(line, &text[..end]) {
+    if end < text.len() && line == &text[..end] {
         return Outcome::Same;
     }
     Outcome::Different { from, to: end }

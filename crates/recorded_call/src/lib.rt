@@ -1,3 +1,5 @@
 // A recorded call of LPSYS or of tasks, run on an argument's bytes.
+#![tactic(auto)]
+
 pub mod lpsys;
 pub mod tasks;

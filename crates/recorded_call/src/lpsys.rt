@@ -5,7 +5,7 @@ ghost use Rattle.recorded_call.specs.lpsys.{result_of};
 use call::Answer;
 use time::Megahertz;
 
-#[derive(Drop)]
+#[derive(Clone, Copy)]
 pub enum Call {
     Request,
     Safe,

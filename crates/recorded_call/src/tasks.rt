@@ -5,7 +5,7 @@ ghost use Rattle.recorded_call.specs.tasks.{result_of};
 
 use call::Answer;
 
-#[derive(Drop)]
+#[derive(Clone, Copy)]
 pub enum Call {
     Book,
     Release,

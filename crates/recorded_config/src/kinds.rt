@@ -2,7 +2,7 @@
 ghost use Rattle.std.specs.Prelude.{◌≡◌};
 ghost use Rattle.recorded_config.specs.kinds.{lent_clocks};
 
-#[derive(Drop)]
+#[derive(Clone, Copy)]
 pub enum Call {
     Calibrate,
     Init,

@@ -1,4 +1,6 @@
 // The calls of rcc/clock_config.rs and the guarded change, run on a plan's bytes.
+#![tactic(auto)]
+
 pub mod kinds;
 
 ghost use Rattle.std.specs.Prelude.{◌≡◌};

@@ -1,5 +1,7 @@
 // What a call is given beside its head, as bytes. A byte past the end is 0, so every list of bytes is
 // an argument of every call.
+#![tactic(auto)]
+
 pub mod numbers;
 
 ghost use Rattle.std.specs.Prelude.{◌≤◌, ◌≡◌, drop, get_or};

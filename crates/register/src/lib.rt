@@ -1,4 +1,6 @@
 // The 34 registers of a head record: their numbers, their words and their codes.
+#![tactic(auto)]
+
 pub mod bytes;
 
 ghost use Rattle.std.specs.Prelude.{◌≡◌, ◌<◌};

@@ -12,7 +12,7 @@ ghost use Rattle.replay.specs.Line.{lent_clocks, result_of, clocks_after, line_o
 use call::Answer;
 use recorded_answer::Outcome;
 
-#[derive(Drop)]
+#[derive(Clone, Copy)]
 pub enum Call {
     Lpsys(recorded_call::lpsys::Call),
     Config(recorded_config::kinds::Call),
@@ -65,8 +65,8 @@ fn run_line(
     text: &mut [u8],
 ) -> Outcome
     requires { (left.old ≡ buffer.now) × (words.now ≡ answers_in answers.now) }
-    ensures answer_within { AnswerWithin result (length text.old) }
-    ensures line_value { result ≡ Outcome.Same → line.now ≡ line_of call name.now argument.now buffer.now answers.now former }
+    ensures within { AnswerWithin result (length text.old) }
+    ensures same { result ≡ Outcome.Same → line.now ≡ line_of call name.now argument.now buffer.now answers.now former }
 {
     let mut clocks = former;
     let mut journal = [recorded_answer::UNUSED; 128];
@@ -79,7 +79,7 @@ fn run_line(
 
 // Replays a line of a file of this name. The buffers have room for the bytes of any line of 4,096 digits.
 pub fn call_line(call: Call, name: &[u8], line: &[u8], text: &mut [u8]) -> Outcome
-    ensures answer_within { AnswerWithin result (length text.old) }
+    ensures within { AnswerWithin result (length text.old) }
     ensures recorded { result ≡ Outcome.Same → Recorded call name.now line.now }
 {
     let mut argument = [0u8; 2048];

@@ -7,10 +7,13 @@ use crate::calls::Call;
 use crate::output::{Tally, report};
 use crate::reading::Reading;
 use recorded_answer::Outcome;
+use std::io::Read;
+use std::rt::Files;
+use std::{fs, io};
 use text::lines::{Line, Reader};
 
 // What the lines of a file record.
-#[derive(Drop)]
+#[derive(Clone, Copy)]
 pub enum Recorded {
     Call(Call),
     Reading(Reading),
@@ -30,70 +33,82 @@ fn compare(recorded: Recorded, name: &[u8], line: &[u8], text: &mut [u8]) -> Out
 }
 
 // Replays one line, and shows it where it differs and few did before it.
-fn replay_line(recorded: Recorded, name: &[u8], number: u64, tally: Tally, line: &[u8]) -> Tally {
+fn replay_line<R: Print>(
+    rt: &R,
+    recorded: Recorded,
+    name: &[u8],
+    number: u64,
+    tally: Tally,
+    line: &[u8],
+) -> io::Result<Tally> {
     // As long as the line buffer, so longer than any recorded answer.
     let mut text = [0u8; 4096];
     match compare(recorded, name, line, &mut text) {
-        Outcome::Same => tally.counted(true),
+        Outcome::Same => Ok(tally.counted(true)),
         Outcome::Different { from, to } => {
             if tally.different < SHOWN {
-                report::different(name, number, line, &text[from..to]);
+                report::different(rt, name, number, line, &text[from..to])?;
             }
-            tally.counted(false)
+            Ok(tally.counted(false))
         }
         Outcome::Overwritten => {
             if tally.different < SHOWN {
-                report::overwritten(name, number, line);
+                report::overwritten(rt, name, number, line)?;
             }
-            tally.counted(false)
+            Ok(tally.counted(false))
         }
     }
 }
 
 // Replays every line of a file that is open for reading. A proved loop has to end, and nothing says
 // that a file does: the loop counts its turns, up to a number that no run reaches.
-fn replay_lines(recorded: Recorded, name: &[u8], fd: i32) -> Tally {
+fn replay_lines<R: Print, F: Read>(
+    rt: &R,
+    file: &mut F,
+    recorded: Recorded,
+    name: &[u8],
+) -> io::Result<Tally> {
     let mut block = [0u8; 65536];
     let mut line = [0u8; 4096];
-    let mut reader = Reader::new(fd);
+    let mut reader = Reader::new();
     let mut tally = Tally::new();
     let mut number: u64 = 0;
     while number < u64::MAX {
         number += 1;
-        match reader.next_line(&mut block, &mut line) {
+        match reader.next_line(file, &mut block, &mut line) {
             Line::End => {
-                return tally;
+                return Ok(tally);
             }
             Line::Broken(fault) => {
-                report::broken(name, number, fault);
-                return tally.one_different();
+                report::broken(rt, name, number, fault)?;
+                return Ok(tally.one_different());
             }
             Line::Whole(length, after) => {
-                tally = replay_line(recorded, name, number, tally, &line[..length]);
+                tally = replay_line(rt, recorded, name, number, tally, &line[..length])?;
                 reader = after;
             }
         }
     }
-    tally
+    Ok(tally)
 }
 
-// Opens the file NAME.txt for reading.
-fn open(name: &[u8]) -> i32 {
+// Opens the file NAME.txt for reading, if that can be.
+fn open<R: Files>(rt: &R, name: &[u8]) -> Option<R::File> {
     let mut path = [0u8; 64];
     let named = text::put(name, &mut path, 0);
     let end = text::put(b".txt", &mut path, named);
-    os::open_read(&path[..end])
+    match str::from_utf8(&path[..end]) {
+        Ok(path) => fs::open(rt, path).ok(),
+        Err(_) => None,
+    }
 }
 
 // Replays the file of a name, and says what it found.
-pub fn replay(recorded: Recorded, name: &[u8]) {
-    let fd = open(name);
-    if fd < 0 {
-        report::unopened(name);
-        report::sums(name, Tally::new().one_different());
-        return;
-    }
-    let tally = replay_lines(recorded, name, fd);
-    libc::close(fd);
-    report::sums(name, tally);
+pub fn replay<R: Files + Print>(rt: &R, recorded: Recorded, name: &[u8]) -> io::Result<()> {
+    let Some(mut file) = open(rt, name) else {
+        report::unopened(rt, name)?;
+        return report::sums(rt, name, Tally::new().one_different());
+    };
+    let tally = replay_lines(rt, &mut file, recorded, name)?;
+    report::sums(rt, name, tally)
 }

@@ -8,7 +8,7 @@ ghost use Rattle.replay.specs.reading.{clocks_text, lpsys_text, answer_text, Rec
 
 use recorded_answer::Outcome;
 
-#[derive(Drop)]
+#[derive(Clone, Copy)]
 pub enum Reading {
     Plan,
     Clocks,
@@ -51,7 +51,7 @@ fn put_answer(reading: Reading, bytes: &[u8], text: &mut [u8], at: usize) -> usi
 
 // Replays a line of a file of this name. The buffer has room for the bytes of any line of 4,096 digits.
 pub fn reading_line(reading: Reading, name: &[u8], line: &[u8], text: &mut [u8]) -> Outcome
-    ensures answer_within { AnswerWithin result (length text.old) }
+    ensures within { AnswerWithin result (length text.old) }
     ensures recorded { result ≡ Outcome.Same → Recorded reading name.now line.now }
 {
     let mut buffer = [0u8; 2048];

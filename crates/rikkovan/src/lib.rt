@@ -1,4 +1,6 @@
 // What C calls, as include/rikkovan.h declares it.
+#![tactic(auto)]
+
 mod change;
 mod config;
 mod lpsys;

@@ -6,7 +6,7 @@ ghost use Rattle.task.specs.look_up.{look_up, value_of};
 use crate::Task;
 
 // Whether a task has the id, and how many tasks were read.
-#[derive(Drop)]
+#[derive(Clone, Copy)]
 pub enum LookUp {
     Hit(u8),
     Miss(u8),

@@ -1,3 +1,4 @@
 pub mod DecimalLaws
 pub mod HexLaws
 pub mod Putting
+pub mod Taking

@@ -1,11 +1,10 @@
 -- Numbers in decimal.
-use Rattle.std.specs.Prelude.{ℕ, zero, suc, ◌/◌, ◌%◌, cond, List, [], ◌∷◌, ◌++◌, ltb}
-use Rattle.io.specs.Digits.{hex_digit_ascii}
+use Rattle.std.specs.Prelude.{ℕ, zero, suc, ◌+◌, ◌/◌, ◌%◌, cond, List, [], ◌∷◌, ◌++◌, ltb}
 
 -- the digits of a number, the most significant first, none in front that is 0; at most `most` of them
 unfoldable pub digits_of : ℕ → ℕ → List ℕ
 digits_of zero n = []
-digits_of (suc most) n = cond (ltb n 10) (hex_digit_ascii n ∷ []) (digits_of most (n / 10) ++ (hex_digit_ascii (n % 10) ∷ []))
+digits_of (suc most) n = cond (ltb n 10) ((48 + n) ∷ []) (digits_of most (n / 10) ++ ((48 + n % 10) ∷ []))
 
 -- a number of 64 bits in decimal, which takes 20 digits at most
 abbrev pub decimal_of : ℕ → List ℕ

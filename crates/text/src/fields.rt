@@ -6,7 +6,7 @@ ghost use Rattle.std.specs.Prelude.{◌≤◌, length};
 use digits::hexadecimal::Pair;
 
 // `count` bytes, at the start of the buffer. `next` is the place after the field.
-#[derive(Drop)]
+#[derive(Clone, Copy)]
 pub struct Field {
     pub count: usize,
     pub next: usize,

@@ -1,4 +1,6 @@
 // Text that is put together in a lent buffer, part by part.
+#![tactic(auto)]
+
 pub mod fields;
 pub mod file;
 pub mod lines;
@@ -30,9 +32,8 @@ pub fn put_number(number: u64, text: &mut [u8], at: usize) -> usize
     requires { at ≤ length text.old }
     ensures { Puts (decimal_of number) text.old at text.new result }
 {
-    let mut digits = [0u8; 20];
-    let count = io::decimal(number, &mut digits);
-    put(&digits[..count], text, at)
+    let mut digits = itoa::Buffer::new();
+    put(digits.format(number).as_bytes(), text, at)
 }
 
 // Puts a blank and a number.

@@ -6,7 +6,7 @@ ghost use Rattle.time.specs.arithmetic.{exact, quotient};
 use crate::Hertz;
 
 // What a sum, a product or a quotient comes to.
-#[derive(Drop)]
+#[derive(Clone, Copy)]
 pub enum Computed {
     Exact(Hertz),
     // The result does not fit 32 bits.

@@ -1,4 +1,6 @@
 // time.rs: frequencies in hertz and in whole megahertz. The source is modified from embassy-stm32; see NOTICE.
+#![tactic(auto)]
+
 pub mod arithmetic;
 
 ghost use Rattle.std.specs.Prelude.{◌≡◌};
@@ -6,15 +8,15 @@ ghost use Rattle.time.specs.Frequency.{megahertz, hz_or};
 ghost use Rattle.time.specs.MaybeHertz.{maybe, found};
 
 // A frequency in Hz.
-#[derive(Drop)]
+#[derive(Clone, Copy)]
 pub struct Hertz(pub u32);
 
 // A frequency in MHz, the rest cut off.
-#[derive(Drop)]
+#[derive(Clone, Copy)]
 pub struct Megahertz(pub u32);
 
 // What the reading of a frequency finds.
-#[derive(Drop)]
+#[derive(Clone, Copy)]
 pub enum Reading {
     At(Hertz),
     Unreadable,
@@ -42,7 +44,7 @@ impl Reading {
 }
 
 // A frequency in Hz, 0 for none.
-#[derive(Drop)]
+#[derive(Clone, Copy)]
 pub struct MaybeHertz(pub u32);
 
 impl MaybeHertz {

@@ -1,4 +1,6 @@
 // The verdict on a plan: rcc/clock_config.rs, `ConfigBuilder::check`.
+#![tactic(auto)]
+
 pub mod planned;
 pub mod tests;
 
@@ -9,7 +11,7 @@ ghost use Rattle.verdict.specs.Verdict.{verdict_of};
 use plan::Plan;
 pub use plan_clocks::Target;
 
-#[derive(Drop)]
+#[derive(Clone, Copy)]
 pub enum Verdict {
     Accepted(Target),
     // Refusal 1 to 14.

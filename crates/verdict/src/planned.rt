@@ -11,7 +11,7 @@ use plan_clocks::Target;
 use time::Hertz;
 
 // The plan and what it gives, and 0; or a refusal 1 to 14 beside a plan and a target that are no one's.
-#[derive(Drop)]
+#[derive(Clone, Copy)]
 pub struct Planned {
     pub refusal: u8,
     pub plan: Plan,

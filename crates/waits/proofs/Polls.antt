@@ -1,16 +1,16 @@
 -- Polling, and a wait as the code makes it.
 use Prim.Native.Nat.{ℕ, suc, ◌+◌, ◌-◌, ◌*◌, ◌<◌, ◌≤◌}
 use mathlib.Core.Path.{◌≡◌, refl, ap, sym, ◌∙◌, subst}
-use mathlib.Core.Bool.{Bool, true, false, cond}
+use mathlib.Core.Bool.{true}
 use mathlib.Core.List.{List, [], ◌∷◌, ◌++◌}
 use native.Mathlib.Omega.{arith}
 use native.Mathlib.Numerals.{add-one}
-use lib.Dec.{eqb, leb}
+use lib.Dec.{leb}
 use lib.ListN.{length, get_or, drop, set, length-append}
 use lib.Seq.{drop-cons, drop-length}
 use borrow.Author.Tests.{ne_eqb, le-leb, lt-leb}
 use Rattle.journal.specs.declared.Machine.{Machine}
-use Rattle.journal.specs.Run.{Run, Effect, Poll, ready_after, never_ready, more, poll, entry, ended, waited, wait, measured, measure}
+use Rattle.journal.specs.Run.{Run, Poll, ready_after, never_ready, more, poll, entry, ended, waited, wait, measured, measure}
 use Rattle.journal.specs.Machine.{machine_of, Ran}
 use Rattle.waits.specs.Found.{Found}
 use Rattle.journal.proofs.Reached.{ran_entry, ran_quiet}

@@ -1,5 +1,7 @@
 // Waits of a running call: polls take the lent answers one after the other, 0 not ready, else ready.
 // As in `journal`, the next machine is made at one place.
+#![tactic(auto)]
+
 pub mod hxt48;
 
 ghost use Rattle.std.specs.Prelude.{◌≡◌, ◌<◌, ◌≤◌, length, drop};

@@ -1,6 +1,6 @@
 -- The table of the code, read at a mode's number, has the rows of the definitions.
 use mathlib.Core.Path.{◌≡◌, refl}
-use mathlib.Core.List.{List, [], ◌∷◌}
+use mathlib.Core.List.{[], ◌∷◌}
 use lib.ListN.{get_or}
 use Rattle.dvfs.specs.declared.lpsys.LpsysDvfsConfig.{LpsysDvfsConfig}
 use Rattle.dvfs.specs.declared.lpsys.LpsysDvfsMode.{LpsysDvfsMode}

@@ -10,7 +10,6 @@ use lib.Seq.{get_or-drop}
 use borrow.Author.Tests.{eqb-true, eqb-false}
 use Rattle.record.specs.Bytes.{is_within, bit}
 use Rattle.record.proofs.Bytes.{and_left, and_right, within_at}
-use Rattle.clock.specs.declared.Dll.{Dll}
 use Rattle.clock.specs.declared.MaybeDll.{MaybeDll}
 use Rattle.clock.specs.declared.MaybeDll.TheVariants.{Absent, Present}
 use Rattle.plan.specs.Code.{largest_of_plan, present_of, stage_of, half_of}

@@ -1,7 +1,7 @@
 // How many lines of a file were replayed, and how many differ. The counts stop at the largest
 // number, so that none comes back to 0.
 
-#[derive(Drop)]
+#[derive(Clone, Copy)]
 pub struct Tally {
     pub replayed: u64,
     // A file that could not be read to its end counts here too.

@@ -1,0 +1,29 @@
+-- `dll::enable_hpbg` meets its contract: the test picks the case of `hpbg_on`.
+use borrow.Author.Tests.{eq-eqb, ne_eqb}
+use lib.Dec.{eqb}
+use mathlib.Core.Bool.{cond}
+use Rattle.head.specs.declared.Head.{Head}
+use Rattle.register.specs.Word.{word_of, byte_b, byte_c}
+use Rattle.clock_read.specs.Hpsys.{reg}
+use Rattle.journal.specs.Run.{idle, store}
+use Rattle.dll.specs.Dll.{hpbg_on}
+use Rattle.dll.proofs.Fits.{hpbg_fits}
+use Rattle.journal.proofs.Does.{by_head, does_nothing}
+use borrow.Author.Rules.{rules}
+use Rattle.dll.proofs.enable_hpbg.Goals as goal
+
+pub returns-then-b-ne0 : goal.returns-then-b-ne0
+unfolding hpbg_on
+returns-then-b-ne0 c =
+    by_head (λ (h : Head). cond (eqb (byte_b (reg h 11)) 0) (store 11 (word_of 0 1 (byte_c (reg h 11)))) idle)
+    (simp (← c.b.ensures, ne_eqb _ _ c.if-b-ne0.true) (does_nothing c.requires))
+
+pub store-requires : goal.store-requires
+store-requires c =
+    record { lent = search rules; number_bound = (search rules, simp (c.word.ensures, c.c.ensures) (hpbg_fits c.args.m.head c.requires.encodable)) }
+
+pub returns : goal.returns
+unfolding hpbg_on
+returns c =
+    by_head (λ (h : Head). cond (eqb (byte_b (reg h 11)) 0) (store 11 (word_of 0 1 (byte_c (reg h 11)))) idle)
+    (simp (← c.b.ensures, eq-eqb _ _ c.if-b-ne0.false, ← c.c.ensures, ← c.word.ensures) c.store.ensures)

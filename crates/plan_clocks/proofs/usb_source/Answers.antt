@@ -1,0 +1,12 @@
+-- `plan_clocks::usb_source` meets its contract: the source picks the case of `usb_hz`.
+use borrow.Author.Tests.{eq-eqb, ne_eqb}
+use Rattle.plan_clocks.specs.Clocks.{usb_hz}
+use Rattle.plan_clocks.proofs.usb_source.Goals as goal
+
+pub returns-then-usbsel-ne-USB_DLL2 : goal.returns-then-usbsel-ne-USB_DLL2
+unfolding usb_hz
+returns-then-usbsel-ne-USB_DLL2 c = simp (ne_eqb _ _ c.if-usbsel-ne-USB_DLL2.true, c.requires.1)
+
+pub returns : goal.returns
+unfolding usb_hz
+returns c = simp (eq-eqb _ _ c.if-usbsel-ne-USB_DLL2.false, c.dll_freq.ensures)

@@ -1,0 +1,7 @@
+-- `time::arithmetic::mul` meets its contract: the product of two numbers of 32 bits fits 64.
+use Rattle.time.proofs.arithmetic.Product.{product_fits}
+use borrow.Author.Rules.{rules}
+use Rattle.time.proofs.arithmetic.mul.Goals as goal
+
+pub overflow_mul-hertz : goal.overflow_mul-hertz
+overflow_mul-hertz c = record { fits = product_fits 32 (search rules) (search rules) }
