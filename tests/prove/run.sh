@@ -14,6 +14,16 @@ touch "$repo"/crates/{low,high}/must-fail/wrong.edit
 
 cat >"$work/bin/rt" <<'RT'
 #!/usr/bin/env bash
+# Waits until the script has shown it, however slow the machine is; where nobody reads, goes on.
+shown() { # WORDS
+    local tries
+    [ -n "${SEEN:-}" ] || return 0
+    for ((tries = 0; tries < 600; tries++)); do
+        grep -qF "$1" "$SEEN" && return
+        sleep 0.1
+    done
+    exit 4
+}
 . "$PLAY"
 RT
 chmod +x "$work/bin/rt"
@@ -22,11 +32,11 @@ cat >"$work/passes" <<'PLAY'
 proved='logic=proved functions=6 sum=dac8208d650f15bf native=nat,char,string logic-built=trusted libraries-built=trusted statements=trusted'
 printf '%s\n' '== low' 'fn low::add: proved' "$proved" 'rt: low proved'
 echo 'rt: low: trying its must-fail edits (1)'
-sleep 2
+shown '1 of 3 crates, 0 of 2'
 printf '%s\n' 'rt: other is kept: an earlier run on this machine proved the same files over the same libraries'
 printf '%s\n' '== high: its tests' "$proved" 'rt: high: its tests are proved'
 printf '%s\n' '== high' 'fn high::sum: proved' "$proved" 'rt: high proved'
-sleep 2
+shown '3 of 3 crates, 0 of 2'
 echo 'rt: low: 1 of its 1 must-fail edits were tried by an earlier run on this machine, and nothing that they stand on has changed'
 echo 'rt: must-fail low/wrong.edit: refused, as it must be: note: src/lib.rt:7:3: it is not proved that a holds'
 echo 'rt: must-fail high/wrong.edit: refused, as it must be'
@@ -57,7 +67,7 @@ PLAY
 cat >"$work/archives" <<'PLAY'
 [ "$*" = 'lib --cpu x86-64' ] && [ "${PWD##*/}" = high ] || exit 3
 echo 'rt: chose --jobs 2 for high'
-sleep 2
+shown '0 of 2 crates'
 echo 'logic=proved functions=2 target=x86_64-unknown-linux-gnu'
 PLAY
 echo 'echo "rt: low proved"; kill -KILL $$' >"$work/dies"
@@ -67,7 +77,7 @@ echo 'sleep 1000 & echo $! >"$SLEEPER"; wait' >"$work/goes_on"
 # Runs the script, and wants a status.
 plays() { # STATUS PLAY WORDS..
     local status=0
-    PLAY=$work/$2 PATH=$work/bin:$PATH "$repo/tools/prove.sh" 'try it' "${@:3}" >"$work/out" 2>"$work/err" || status=$?
+    SEEN=$work/err PLAY=$work/$2 PATH=$work/bin:$PATH "$repo/tools/prove.sh" 'try it' "${@:3}" >"$work/out" 2>"$work/err" || status=$?
     cat "$work/out" "$work/err"
     [ "$status" -eq "$1" ]
 }
@@ -89,18 +99,28 @@ passes() {
     rm -rf "$repo/build"
     plays 0 passes ci && diff /dev/null "$work/out" &&
         says 'try it: 3 crates, 2 must-fail edits; what rt says goes to build/log/ci' \
-            'try it: 1 of 3 crates, 0 of 2 must-fail edits (0:0?)' \
-            'try it: 3 of 3 crates, 0 of 2 must-fail edits (0:0?)' \
-            'try it: 3 of 3 crates, 2 of 2 must-fail edits (0:0?)'
+            'try it: 1 of 3 crates, 0 of 2 must-fail edits (?:??)' \
+            'try it: 3 of 3 crates, 0 of 2 must-fail edits (?:??)' \
+            'try it: 3 of 3 crates, 2 of 2 must-fail edits (?:??)'
 }
 
 keeps_every_line() {
     [ "$(wc -l <"$repo/build/log/ci")" -eq 21 ] && [ "$(tail -n 1 "$repo/build/log/ci")" = '5 passed, 0 failed' ]
 }
 
+# The seconds of what it did, which add up to the run: it has shown two lines, a second apart at least.
+keeps_the_times() {
+    local sum
+    cut -d' ' -f1 "$repo/build/times/ci" | diff - <(printf '%s\n' end high high/wrong low low/wrong) &&
+        sum=$(awk '{ sum += $2 } END { print sum }' "$repo/build/times/ci") && [ "$sum" -ge 2 ] &&
+        [ "$sum" -le "$(sed -n '$s/.*(\(.*\):\(.*\)).*/\1 \2/p' "$work/err" | awk '{ print $1 * 60 + $2 }')" ]
+}
+
+# `other` was not in the last run, so it counts 800 seconds, the mean; a minute may go by before each line.
 knows_the_time_left() {
-    plays 0 passes ci && says 'try it: 1 of 3 crates, 0 of 2 must-fail edits (0:0?, about 0:0[2-4] left)' &&
-        says 'try it: 3 of 3 crates, 0 of 2 must-fail edits (0:0?, about 0:0[0-2] left)'
+    printf '%s\n' 'low 600' 'high 1200' 'low/wrong 600' 'high/wrong 600' 'end 0' >"$repo/build/times/ci"
+    plays 0 passes ci && says 'try it: 1 of 3 crates, 0 of 2 must-fail edits (?:??, about 5[23]:?? left)' \
+        'try it: 3 of 3 crates, 0 of 2 must-fail edits (?:??, about @(19|20):?? left)'
 }
 
 fails() {
@@ -140,12 +160,21 @@ cannot() {
 }
 
 writes_archive() {
-    plays 0 archives lib high --cpu x86-64 && says 'try it: 0 of 2 crates (0:0?): high' 'try it: 2 of 2 crates (0:0?)'
+    plays 0 archives lib high --cpu x86-64 && says 'try it: 0 of 2 crates (?:??): high' 'try it: 2 of 2 crates (?:??)'
 }
 
 # One that has ended may wait for its parent.
 runs() { # PROCESS
     grep -q '^State:[[:space:]]*[^Z[:space:]]' "/proc/$1/status"
+}
+
+ends() { # PROCESS
+    local tries
+    for ((tries = 0; tries < 600; tries++)); do
+        runs "$1" || return 0
+        sleep 0.1
+    done
+    return 1
 }
 
 # Runs it in a process group of its own, and sends a signal to that. A shell cannot take back that a signal is ignored, so env does.
@@ -159,8 +188,7 @@ is_ended_by() { # SIGNAL STATUS
     until [ -s "$work/sleeper" ] || ! kill -0 "$group"; do sleep 0.1; done
     kill "-$1" -- "-$group"
     wait "$group" || status=$?
-    sleep 0.2
-    [ "$status" -eq "$2" ] && ! runs "$(cat "$work/sleeper")"
+    [ "$status" -eq "$2" ] && ends "$(cat "$work/sleeper")"
 }
 
 goes_on_unread() {
@@ -171,7 +199,8 @@ goes_on_unread() {
 }
 
 on_terminal() { # TERM
-    TERM=$1 PLAY=$work/passes PATH=$work/bin:$PATH script -qec "'$repo/tools/prove.sh' 'try it' ci" /dev/null </dev/null >"$work/seen"
+    : >"$work/seen"
+    TERM=$1 SEEN=$work/seen PLAY=$work/passes PATH=$work/bin:$PATH script -qec "'$repo/tools/prove.sh' 'try it' ci" /dev/null </dev/null >"$work/seen"
 }
 
 moves() {
@@ -184,6 +213,7 @@ does_not_move() {
 
 check 'a run that passes' passes
 check 'the log has all that rt said' keeps_every_line
+check 'the times of the run' keeps_the_times
 check 'the time left, by the last run' knows_the_time_left
 check 'a crate that is not proved' fails
 check 'an rt ci that fails' refuses
