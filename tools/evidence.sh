@@ -15,7 +15,10 @@ tables=$(oracle/target/release/oracle compare --table "$@") || {
 cat <<TEXT
 # Evidence
 
-Every call of \`librikkovan.a\` gave the answer, the values and the bytes that were wanted, in every query below. The Rust is the original of sifli-rs at commit aa4c19c5cf, on stand-in registers; the cycles of delays are held to document 02, which rounds them up; load check, booking, release, look-up, guarded change, the reading of fit and moments are not in it, and are held to models that were written from document 01, the look-up's from document 02. [oracle/README.md](../oracle/README.md) says what is compared and how.
+Every call of \`librikkovan.a\` gave the answer, the values and the bytes that were wanted, in every query below. The Rust is the original of sifli-rs \
+at commit aa4c19c5cf, on stand-in registers; the cycles of delays are held to document 02, which rounds them up; load check, booking, release, \
+look-up, guarded change, the reading of fit and moments are not in it, and are held to models that were written from document 01, the look-up's from \
+document 02. [oracle/README.md](../oracle/README.md) says what is compared and how.
 
 - Library: commit $commit.
 - Command: \`$command\`; \`make evidence\` writes this file anew, with COUNT, SECONDS and SEED as for \`make compare\`.

@@ -26,7 +26,8 @@ returns-then-admitted-ne0 c =
     let answers = c.args.answers.now in
     let run = init (plan_of plan) answers in
     let warning = init_warning (plan_of plan) answers (begin (head_of buffer)) in
-    let both = plan_unadmitted plan buffer journal answers c.admit_with_answers-admitted.ensures run warning _ (clocks_of (head_after run buffer)) (replicate 15 0) c.if-admitted-ne0.true c.refused.ensures in
+    let both = plan_unadmitted plan buffer journal answers c.admit_with_answers-admitted.ensures run warning _
+    (clocks_of (head_after run buffer)) (replicate 15 0) c.if-admitted-ne0.true c.refused.ensures in
     record { answers = both.0; clocks_after = both.1 }
 
 pub returns-then-planned-ne0 : goal.returns-then-planned-ne0
@@ -45,7 +46,11 @@ returns-then-planned-ne0 c =
 pub init-done-requires : goal.init-done-requires
 init-done-requires c =
     let w = c.if-planned-ne0.false in
-    let given = plans _ _ c.admit-planned.ensures in record { lent = lent_answers _ _ 94 _ c.start.ensures (omega arith) _ c.admit_with_answers-admitted.ensures c.if-admitted-ne0.false; p_value = (given.legal_is w, (given.target_is w, given.usb_is w)) }
+    let given = plans _ _ c.admit-planned.ensures in
+    record {
+      lent = lent_answers _ _ 94 _ c.start.ensures (omega arith) _ c.admit_with_answers-admitted.ensures c.if-admitted-ne0.false;
+      p_value = (given.legal_is w, (given.target_is w, given.usb_is w));
+    }
 
 pub finish-requires : goal.finish-requires
 finish-requires c =

@@ -41,14 +41,19 @@ returns-then-planned-ne0 c =
     let run = to_plan (plan_of plan) answers in
     let read = with_audio_of former (clocks_of (head_after run buffer)) in
     let given = plans _ _ c.admit-planned.ensures in
-    let both = plan_refused plan buffer journal answers c.admit_with_answers-admitted.ensures given run 0 _ read former c.if-admitted-ne0.false c.if-planned-ne0.true c.refused-then-planned-ne0.ensures in
+    let both = plan_refused plan buffer journal answers c.admit_with_answers-admitted.ensures given run 0 _ read former c.if-admitted-ne0.false
+    c.if-planned-ne0.true c.refused-then-planned-ne0.ensures in
     record { answers = both.0; clocks_after = both.1 }
 
 pub config_hcpu_dvfs-m-requires : goal.config_hcpu_dvfs-m-requires
 unfolding target_of
 config_hcpu_dvfs-m-requires c =
     let w = c.if-planned-ne0.false in
-    let given = plans _ _ c.admit-planned.ensures in record { lent = lent_answers _ _ 16 _ c.start.ensures (omega arith) _ c.admit_with_answers-admitted.ensures c.if-admitted-ne0.false; p_value = (given.legal_is w, ap (λ (t : Target). t.hclk.0) (given.target_is w)) }
+    let given = plans _ _ c.admit-planned.ensures in
+    record {
+      lent = lent_answers _ _ 16 _ c.start.ensures (omega arith) _ c.admit_with_answers-admitted.ensures c.if-admitted-ne0.false;
+      p_value = (given.legal_is w, ap (λ (t : Target). t.hclk.0) (given.target_is w));
+    }
 
 pub finish-requires : goal.finish-requires
 finish-requires c =

@@ -13,7 +13,11 @@ unfolding init init_warning
 returns-then-boot_mode-eq-PM_STANDBY_BOOT c =
     let standby = eq-eqb c.args.m.head.boot_mode 3 (omega (arith, c.if-boot_mode-eq-PM_STANDBY_BOOT.true)) in
     let left = lent_after {n = 91} (omega arith) c.requires.lent c.init_begin-m.ensures in
-    let done = c.init_begin-m.ensures then does_nothing left in record { does = by_head (init_on c.args.p _) (rw standby done); told = record { told = λ r j₀ at. simp (sym (ap (λ (w : Machine). eqb w.head.boot_mode 3) at.machine) ∙ standby) } }
+    let done = c.init_begin-m.ensures then does_nothing left in
+    record {
+      does = by_head (init_on c.args.p _) (rw standby done);
+      told = record { told = λ r j₀ at. simp (sym (ap (λ (w : Machine). eqb w.head.boot_mode 3) at.machine) ∙ standby) };
+    }
 
 pub returns : goal.returns
 unfolding init init_warning

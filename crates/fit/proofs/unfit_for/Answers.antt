@@ -46,15 +46,29 @@ returns-then-rail-hclk c = rw (reads (goal.at.returns-then-rail-hclk c).In-At, l
 pub returns-then-not-source_is_on : goal.returns-then-not-source_is_on
 unfolding unfit_for first_of
 returns-then-not-source_is_on c =
-    rw (reads (goal.at.returns-then-not-source_is_on c).In-At, carried (goal.at.returns-then-not-source_is_on c).Else-rail-hclk, sym (first (goal.at.returns-then-not-source_is_on c).After-source_is_on) ∙ c.if-not-source_is_on.true)
+    rw (
+      reads (goal.at.returns-then-not-source_is_on c).In-At,
+      carried (goal.at.returns-then-not-source_is_on c).Else-rail-hclk,
+      sym (first (goal.at.returns-then-not-source_is_on c).After-source_is_on) ∙ c.if-not-source_is_on.true,
+    )
 
 pub returns-then-not-source_is_on-2 : goal.returns-then-not-source_is_on-2
 unfolding unfit_for first_of
 returns-then-not-source_is_on-2 c =
-    rw (reads (goal.at.returns-then-not-source_is_on-2 c).In-At, carried (goal.at.returns-then-not-source_is_on-2 c).Else-rail-hclk, sym (first (goal.at.returns-then-not-source_is_on-2 c).After-source_is_on) ∙ c.if-not-source_is_on.false, sym (second (goal.at.returns-then-not-source_is_on-2 c).After-source_is_on-2) ∙ c.if-not-source_is_on-2.true)
+    rw (
+      reads (goal.at.returns-then-not-source_is_on-2 c).In-At,
+      carried (goal.at.returns-then-not-source_is_on-2 c).Else-rail-hclk,
+      sym (first (goal.at.returns-then-not-source_is_on-2 c).After-source_is_on) ∙ c.if-not-source_is_on.false,
+      sym (second (goal.at.returns-then-not-source_is_on-2 c).After-source_is_on-2) ∙ c.if-not-source_is_on-2.true,
+    )
 
 pub returns : goal.returns
 unfolding unfit_for first_of
 returns c =
-    rw (reads (goal.at.returns c).In-At, carried (goal.at.returns c).Else-rail-hclk, sym (first (goal.at.returns c).After-source_is_on) ∙ c.if-not-source_is_on.false, sym (second (goal.at.returns c).After-source_is_on-2) ∙ c.if-not-source_is_on-2.false)
+    rw (
+      reads (goal.at.returns c).In-At,
+      carried (goal.at.returns c).Else-rail-hclk,
+      sym (first (goal.at.returns c).After-source_is_on) ∙ c.if-not-source_is_on.false,
+      sym (second (goal.at.returns c).After-source_is_on-2) ∙ c.if-not-source_is_on-2.false,
+    )
     c.lpsys_unfit_for.ensures

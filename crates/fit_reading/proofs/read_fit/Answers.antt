@@ -13,4 +13,8 @@ numbers-requires c = read_encodable c.decode-decoded.ensures c.if-decoded-ne0.fa
 
 pub returns : goal.returns
 returns c =
-    record { value = sym (not_refused c.decode-decoded.ensures c.if-decoded-ne0.false); fit_after = simp (eq-eqb _ _ (not_refused c.decode-decoded.ensures c.if-decoded-ne0.false), c.numbers.ensures, read_head c.decode-decoded.ensures c.if-decoded-ne0.false) }
+    let passed = not_refused c.decode-decoded.ensures c.if-decoded-ne0.false in
+    record {
+      value = sym passed;
+      fit_after = simp (eq-eqb _ _ passed, c.numbers.ensures, read_head c.decode-decoded.ensures c.if-decoded-ne0.false);
+    }

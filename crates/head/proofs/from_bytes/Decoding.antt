@@ -50,7 +50,8 @@ module _ (b : List ℕ) (p : Passed b) (bytes : Bytes b) where
   registers_fit (suc k) h =
       let ws : List ℕ = items word_in register_size 34 (drop register_size b) in
       let l : k < length ws = rw items_length (omega arith) in
-      let e : take coded_size (drop register_size b) ≡ joined word_bytes ws ++ take 3 (drop registers_size (drop register_size b)) = rw words_bytes (take-add registers_size 3 (drop register_size b)) in
+      let e : take coded_size (drop register_size b) ≡ joined word_bytes ws ++ take 3 (drop registers_size (drop register_size b)) =
+      rw words_bytes (take-add registers_size 3 (drop register_size b)) in
       let here : take register_size (drop (register_size * k) (take coded_size (drop register_size b))) ≡ word_bytes (get_or ws k 0) =
       rw e (joined_at word_bytes register_size word_length ws (take 3 (drop registers_size (drop register_size b))) k 0 l) in
       let next : register_size * suc k ≡ register_size + register_size * k = omega arith in
@@ -104,7 +105,8 @@ module _ (b : List ℕ) (p : Passed b) (bytes : Bytes b) where
 
   -- a byte of the registers and ready flags is at most its largest value
   code_within : (j : ℕ) → j < coded_size → get_or b (register_size + j) 0 ≤ get_or (drop register_size largest) j 0
-  code_within j h = rw (get_or-take coded_size (drop register_size b) j 0 h, get_or-drop register_size b j 0) at (within_at (take coded_size (drop register_size b)) (drop register_size largest) p.codes j)
+  code_within j h = rw (get_or-take coded_size (drop register_size b) j 0 h, get_or-drop register_size b j 0)
+      at (within_at (take coded_size (drop register_size b)) (drop register_size largest) p.codes j)
 
   flag_at : (j : ℕ) → j < coded_size → get_or (drop register_size largest) j 0 ≡ 1 → get_or b (register_size + j) 0 ≤ 1
   flag_at j h e = rw e at (code_within j h)

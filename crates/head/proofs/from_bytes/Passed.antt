@@ -58,7 +58,8 @@ fits_field b e =
 pub passed : (b : List ℕ) → head_refusal b ≡ 0 → Passed b
 unfolding head_refusal tasks_fit
 passed b e =
-    let p = all_passed (length_fits b) (eqb (get_or b version_at 0) 1) (is_within (take coded_size (drop register_size b)) (drop register_size largest)) (all_ok (tasks_in b) && distinct (tasks_in b)) e in
+    let p = all_passed (length_fits b) (eqb (get_or b version_at 0) 1) (is_within (take coded_size (drop register_size b)) (drop register_size largest))
+    (all_ok (tasks_in b) && distinct (tasks_in b)) e in
     record {
       length = fits_length b p.0;
       count = fits_count b p.0;

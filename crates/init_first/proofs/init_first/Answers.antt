@@ -11,4 +11,7 @@ unfolding init_first
 returns c =
     let swallowed = c.swallow.ensures in
     let done = c.boot_stores-m.ensures then c.calibrate-m.ensures in
-    record { does = done then beside swallowed.does_without_journal; warned = record { told = λ r j₀ at. swallowed.warning_value ∙ ap (λ (w : Machine). warning w.stop) (done.ran.does r j₀ at).machine } }
+    record {
+      does = done then beside swallowed.does_without_journal;
+      warned = record { told = λ r j₀ at. swallowed.warning_value ∙ ap (λ (w : Machine). warning w.stop) (done.ran.does r j₀ at).machine };
+    }

@@ -23,8 +23,11 @@ loop-i-init c = (omega arith, refl)
 pub loop-i-preserved : goal.loop-i-preserved
 loop-i-preserved c =
     let loop = c.loop-i in
-    let entries = c.args.entries.now in
-    (omega arith, loop.invariant.1 ∙ (first_stored loop.regs entries loop.i (omega arith) ∙ ap (λ (l : List ℕ). replayed l (drop (loop.i + 1) entries)) (sym (put_in (goal.at.loop-i-preserved c).Joined-n-lt35))))
+    let entries = c.args.entries.now in (
+      omega arith,
+      loop.invariant.1 ∙ (first_stored loop.regs entries loop.i (omega arith) ∙
+          ap (λ (l : List ℕ). replayed l (drop (loop.i + 1) entries)) (sym (put_in (goal.at.loop-i-preserved c).Joined-n-lt35))),
+    )
 
 pub returns : goal.returns
 returns c =

@@ -10,4 +10,8 @@ returns-then-decoded-ne0 c =
 
 pub returns : goal.returns
 returns c =
-    record { value = sym (not_refused c.decode-decoded.ensures c.if-decoded-ne0.false); lpsys_after = simp (eq-eqb _ _ (not_refused c.decode-decoded.ensures c.if-decoded-ne0.false), c.lpsys_numbers.ensures, read_head c.decode-decoded.ensures c.if-decoded-ne0.false) }
+    let passed = not_refused c.decode-decoded.ensures c.if-decoded-ne0.false in
+    record {
+      value = sym passed;
+      lpsys_after = simp (eq-eqb _ _ passed, c.lpsys_numbers.ensures, read_head c.decode-decoded.ensures c.if-decoded-ne0.false);
+    }

@@ -55,7 +55,8 @@ returns-then-count-eq16 c =
 pub returns-in_default : goal.returns-in_default
 returns-in_default c =
     let dark = sym c.get_hclk_freq.ensures ∙ c.in_default.is in
-    sym (unread c.args.task c.args.head (passed_16 (goal.at.returns-in_default c).Else-not-ok) (passed_40 (goal.at.returns-in_default c).Else-has_id) (passed_41 (goal.at.returns-in_default c).Else-count-eq16) dark)
+    sym (unread c.args.task c.args.head (passed_16 (goal.at.returns-in_default c).Else-not-ok) (passed_40 (goal.at.returns-in_default c).Else-has_id)
+    (passed_41 (goal.at.returns-in_default c).Else-count-eq16) dark)
 
 pub load-requires : goal.load-requires
 load-requires c =

@@ -8,7 +8,8 @@ use Rattle.task.specs.bytes.{task_bytes}
 use Rattle.task.proofs.bytes.write.Given as goal
 
 abbrev pub invariant-loop-i : goal.invariant-loop-i
-invariant-loop-i l = (l.i ≤ l.end) × ((length l.initial.buffer ≡ buffer_bytes) × ((length l.tasks ≡ most_tasks) × ((length l.buffer ≡ buffer_bytes) × (l.buffer ≡ laid first_task (joined task_bytes (take l.i l.tasks)) l.initial.buffer))))
+invariant-loop-i l = (l.i ≤ l.end) × ((length l.initial.buffer ≡ buffer_bytes) × ((length l.tasks ≡ most_tasks) × ((length l.buffer ≡ buffer_bytes) ×
+    (l.buffer ≡ laid first_task (joined task_bytes (take l.i l.tasks)) l.initial.buffer))))
 
 abbrev pub decreases-loop-i : goal.decreases-loop-i
 decreases-loop-i l = l.end - l.i

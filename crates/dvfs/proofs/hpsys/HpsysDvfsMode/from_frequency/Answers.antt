@@ -19,9 +19,19 @@ returns-then-mhz-le-HPSYS_DVFS_MODE_S0_LIMIT c =
 pub returns-then-mhz-le-HPSYS_DVFS_MODE_S1_LIMIT : goal.returns-then-mhz-le-HPSYS_DVFS_MODE_S1_LIMIT
 unfolding mode_of
 returns-then-mhz-le-HPSYS_DVFS_MODE_S1_LIMIT c =
-    simp (lt-leb _ _ c.if-mhz-le-HPSYS_DVFS_MODE_D0_LIMIT.false, lt-leb _ _ c.if-mhz-le-HPSYS_DVFS_MODE_D1_LIMIT.false, lt-leb _ _ c.if-mhz-le-HPSYS_DVFS_MODE_S0_LIMIT.false, le-leb _ _ c.if-mhz-le-HPSYS_DVFS_MODE_S1_LIMIT.true)
+    simp (
+      lt-leb _ _ c.if-mhz-le-HPSYS_DVFS_MODE_D0_LIMIT.false,
+      lt-leb _ _ c.if-mhz-le-HPSYS_DVFS_MODE_D1_LIMIT.false,
+      lt-leb _ _ c.if-mhz-le-HPSYS_DVFS_MODE_S0_LIMIT.false,
+      le-leb _ _ c.if-mhz-le-HPSYS_DVFS_MODE_S1_LIMIT.true,
+    )
 
 pub returns : goal.returns
 unfolding mode_of
 returns c =
-    simp (lt-leb _ _ c.if-mhz-le-HPSYS_DVFS_MODE_D0_LIMIT.false, lt-leb _ _ c.if-mhz-le-HPSYS_DVFS_MODE_D1_LIMIT.false, lt-leb _ _ c.if-mhz-le-HPSYS_DVFS_MODE_S0_LIMIT.false, lt-leb _ _ c.if-mhz-le-HPSYS_DVFS_MODE_S1_LIMIT.false)
+    simp (
+      lt-leb _ _ c.if-mhz-le-HPSYS_DVFS_MODE_D0_LIMIT.false,
+      lt-leb _ _ c.if-mhz-le-HPSYS_DVFS_MODE_D1_LIMIT.false,
+      lt-leb _ _ c.if-mhz-le-HPSYS_DVFS_MODE_S0_LIMIT.false,
+      lt-leb _ _ c.if-mhz-le-HPSYS_DVFS_MODE_S1_LIMIT.false,
+    )
