@@ -20,6 +20,7 @@ use Rattle.head.specs.Head.{stored}
 use Rattle.clock_read.specs.Hpsys.{reg, hclk_of}
 use Rattle.journal.specs.Run.{Run, Effect, ◌▸◌, idle, unless_ended, ended, entry, with_entry, with_head, store, delay, Poll, ready_after, never_ready, poll, waited, measured, measure}
 use Rattle.journal.proofs.Ended.{Still}
+use Rattle.journal.proofs.Mute.{Mute, mute_takes, mute_idle, mute_store, mute_delay, mute_halted, mute_head, mute_then, mute_if, mute_on_head}
 use Rattle.dvfs.specs.declared.hpsys.HpsysDvfsMode.{HpsysDvfsMode}
 use Rattle.dvfs.specs.declared.hpsys.HpsysDvfsMode.TheVariants.{D0, D1, S0, S1}
 use Rattle.dvfs.specs.declared.hpsys.HpsysModeFound.{HpsysModeFound}
@@ -52,8 +53,7 @@ use Rattle.clock_init.specs.Init.{boot, init_on, init}
 use Rattle.lpsys_wake.specs.count.{counted, count_up}
 use Rattle.lpsys_wake.specs.hxt48.{request_hxt48_unless, request_hxt48, request_lpsys_hxt48_unless, request_lpsys_hxt48, hxt48_ready}
 use Rattle.lpsys_wake.specs.Wake.{wake_first, wake}
-use Rattle.play.proofs.Plays.{Adds, adds_none, adds_then, further, Onward, same, out, Plays, plays_then, plays_if, plays_on_head, Mute, mute_takes}
-use Rattle.play.proofs.Plays.{plays_mute, mute_idle, mute_store, mute_delay, mute_halted, mute_head, mute_then, mute_if, mute_on_head}
+use Rattle.play.proofs.Plays.{Adds, adds_none, adds_then, further, Onward, same, out, Plays, plays_then, plays_if, plays_on_head, plays_mute}
 use Rattle.play.proofs.Plays.{plays_wait, plays_measure, plays_wait_hxt48, plays_wait_lpsys_hxt48}
 
 -- the supply of HPSYS

@@ -21,6 +21,7 @@ use Rattle.head.specs.Record.{head_of, written}
 use Rattle.clock_read.specs.Hpsys.{reg, hclk_of}
 use Rattle.journal.specs.Run.{Run, Effect, ◌▸◌, begin, entry, delay, Poll, ready_after, never_ready, poll, waited, wait}
 use Rattle.journal.proofs.Reached.{unless_ended_on, unless_ended_ended}
+use Rattle.journal.proofs.Mute.{Mute, mute_delay, mute_then, mute_takes, placed}
 use Rattle.dvfs.specs.declared.hpsys.HpsysDvfsMode.{HpsysDvfsMode}
 use Rattle.dll.specs.Dll.{set_dll, configure_dll}
 use Rattle.core_clock.specs.dividers.{dividers}
@@ -36,7 +37,6 @@ use Rattle.claim.proofs.changes.Progress.{stop_of}
 use Rattle.claim.proofs.changes.Core.{polled}
 use Rattle.claim.proofs.Demand.{one}
 use Rattle.play.specs.Play.{AroundWait}
-use Rattle.play.proofs.Plays.{Mute, mute_delay, mute_then, mute_takes, placed}
 use Rattle.play.proofs.Parts.{raises, leaves, to_hxt48_lem, sets, behind}
 use Rattle.play.proofs.Calls.{entries_are}
 
