@@ -1,6 +1,6 @@
--- What waking the LPSYS core, cancelling that, HXT48, and waking and slowing leave, on the bytes lent to each; the other LPSYS calls are in `lpsys_request::frequency`,
--- `clock_lpsys::dividers` and `clock_lpsys::selects`.
-use Rattle.std.specs.Prelude.{ℕ, List, [], ◌++◌}
+-- What waking the LPSYS core, cancelling that, HXT48, and waking and slowing leave, on the bytes lent to each; the other LPSYS calls are in
+-- `lpsys_request::frequency`, `clock_lpsys::dividers` and `clock_lpsys::selects`.
+use Rattle.std.specs.Prelude.{ℕ, List, []}
 use Rattle.time.specs.Frequency.{hz_or}
 use Rattle.record.specs.Refusals.{first_of}
 use Rattle.head.specs.Record.{head_of}
@@ -30,4 +30,4 @@ wake_and_slow a = wake a ▸ refuse_unread ▸ slow_down
 
 -- "It answers the LPSYS frequency before the call."
 unfoldable pub wake_and_slow_lcpu : List ℕ → List ℕ → List ℕ → Result
-wake_and_slow_lcpu b j a = performed (first_of (answers_tests b j a ++ [])) (wake_and_slow a) (hz_or 0 (lpsys_hclk_of (head_of b))) b j
+wake_and_slow_lcpu b j a = performed (first_of (answers_tests b j a)) (wake_and_slow a) (hz_or 0 (lpsys_hclk_of (head_of b))) b j
