@@ -186,7 +186,7 @@ bench: oracle
 # The archive is always made again, since it may be there for another CHIP.
 .PHONY: chip chip-measure wasm deps chip-rust $(CHIP_LIBRARY)
 
-$(MODULE): $(LIBRARY) tools/chip-module.sh tools/chip-layout.py tools/rattle.py
+$(MODULE): $(LIBRARY) tools/chip-module.sh tools/chip-pairs.py tools/chip-layout.py tools/rattle.py
 	tools/chip-module.sh
 
 $(CHIP_LIBRARY): $(MODULE)

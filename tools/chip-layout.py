@@ -12,6 +12,7 @@ that each can have, without the order of statements) and finds
   - zeros that are written over a part of a pointer's bytes,
   - a constant that is written to,
   - a pair of values that lies otherwise in memory with 32 bits,
+  - an address that is used for more than how far it is from another,
   - an access through a pointer whose origin is not known.
 
 Exit status 0: none.
@@ -43,7 +44,10 @@ GEP = re.compile(rf'({REG}) = getelementptr (?:inbounds )?(?:nuw )?i8, ptr ({POI
 LOAD = re.compile(rf'({REG}) = load ({SCALAR}|{PAIR}), ptr ({POINTER}), align \d+(?:, !\w+ !\d+)*')
 STORE = re.compile(rf'store ({SCALAR}|{PAIR}) ({OPERAND}|@static\.\d+), ptr ({POINTER}), align \d+')
 PART = re.compile(rf'({REG}) = extractvalue ({PAIR}) ({REG}), ([01])')
+JOIN = re.compile(rf'({REG}) = insertvalue {PAIR} (poison|{REG}), {SCALAR} ({OPERAND}), ([01])')
+ADDRESS = re.compile(rf'({REG}) = ptrtoint ptr ({REG}) to i64')
 COPY = re.compile(rf'call void @llvm\.memmove\.p0\.p0\.i64\(ptr ({POINTER}), ptr ({POINTER}), i64 (\d+), i1 false\)')
+COUNTED = re.compile(rf'call void @llvm\.memmove\.p0\.p0\.i64\(ptr ({POINTER}), ptr ({POINTER}), i64 ({REG}), i1 false\)')
 ZEROS = re.compile(rf'call void @llvm\.memset\.p0\.i64\(ptr ({POINTER}), i8 0, i64 (\d+), i1 false\)')
 CALL = re.compile(rf'(?:({REG}) = )?call (void|{SCALAR}|{PAIR}) ({CALLEE})\((.*)\)')
 RETURN = re.compile(rf'ret (ptr|{PAIR}) ({POINTER})')
@@ -53,9 +57,10 @@ STATIC = re.compile(r'(@static\.\d+) = private unnamed_addr constant \[(\d+) x i
 OUTSIDE = re.compile(r'(?:;.*|source_filename = .*|target .*|attributes #.*|!.*|declare void @llvm\.(?:memmove|memset|trap).*|)')
 
 findings = []
-functions, statics, allocas, geps, loads, stores, parts, copies, zeros, calls, returns = {}, {}, [], [], [], [], [], [], [], [], []
-FORMS = ((ALLOCA, allocas), (GEP, geps), (LOAD, loads), (STORE, stores), (PART, parts), (COPY, copies), (ZEROS, zeros), (CALL, calls),
-         (RETURN, returns))
+functions, statics, allocas, geps, loads, stores, parts, joins = {}, {}, [], [], [], [], [], []
+copies, counted, zeros, addresses, calls, returns = [], [], [], [], [], []
+FORMS = ((ALLOCA, allocas), (GEP, geps), (LOAD, loads), (STORE, stores), (PART, parts), (JOIN, joins), (COPY, copies), (COUNTED, counted),
+         (ZEROS, zeros), (ADDRESS, addresses), (CALL, calls), (RETURN, returns))
 
 
 def words_of(text, number):
@@ -154,6 +159,9 @@ def follow(reads, writes):
                 (o, None if at is None or not constant else at + int(step)) for o, at in points[name, (base, 0)]})
         for _, name, register, _, pair, part in parts:
             grow(points, (name, (register, 0)), points[name, (pair, int(part))])
+        for _, name, register, pair, value, part in joins:
+            grow(points, (name, (register, int(part))), points[name, (value, 0)])
+            grow(points, (name, (register, 1 - int(part))), points[name, (pair, 1 - int(part))])
         for name, register, kind, at, plus in reads:
             if kind == 'ptr':
                 for o, offset in set(points[name, (at, 0)]):
@@ -192,7 +200,7 @@ def judge(reads, writes, points, size):
                 findings.append(f'{name}: access past {o} at {offset + plus}')
             for k in range(SIZE[kind]):
                 kinds[o, offset + plus + k].add(k if kind == 'ptr' else 'number')
-    for name, at in [(n, a) for n, _, _, a, _ in writes] + [(n, a) for _, n, a, *_ in copies + zeros]:
+    for name, at in [(n, a) for n, _, _, a, _ in writes] + [(n, a) for _, n, a, *_ in copies + counted + zeros]:
         findings.extend(f'{name}: writes to {o[1]}' for o, _ in points[name, (at, 0)] if o in statics)
     moves = []
     for _, name, to, source, count in copies:
@@ -204,6 +212,10 @@ def judge(reads, writes, points, size):
                 if s_at is None or t_at is None:
                     kinds[s, None].add('number'), kinds[t, None].add('number')
                 moves.append((s, s_at, t, t_at, int(count)))
+    # A copy of a number of bytes that is not constant: they may be any of both objects, which then hold no pointer.
+    for _, name, to, source, _ in counted:
+        for o, _ in targets(name, to, 'copy') | targets(name, source, 'copy'):
+            kinds[o, None].add('number')
     # Zeros are a number and a pointer alike, where they are written over all of its bytes or none.
     for _, name, at, count in zeros:
         for o, offset in targets(name, at, 'zeros'):
@@ -238,9 +250,27 @@ def judge(reads, writes, points, size):
     return len(kinds), len(pointers)
 
 
+def measured(lines):
+    """An address may be taken from another, and what is between them held against a number of bytes: that is the same with 32 bits."""
+    name, bodies = None, defaultdict(list)
+    for line in lines:
+        define = DEFINE.fullmatch(line.rstrip())
+        name = define[2] if define else name
+        bodies[name].append(line.split(' ; ')[0].strip())
+    for number, name, register, _ in addresses:
+        uses = [line for line in bodies[name] if re.search(rf'{re.escape(register)}(?![\w.])', line) and not line.startswith(f'{register} = ')]
+        between = [re.fullmatch(rf'({REG}) = sub i64 {REG}, {REG}', line) for line in uses]
+        for found in between:
+            after = found and [line for line in bodies[name] if re.search(rf'{re.escape(found[1])}(?![\w.])', line) and not line.startswith(f'{found[1]} = ')]
+            if not found or not all(re.fullmatch(rf'{REG} = icmp ult i64 {re.escape(found[1])}, {REG}', line) for line in after):
+                findings.append(f'line {number}: an address that is not taken from another')
+
+
 def main():
     with open(sys.argv[1], encoding='utf-8') as file:
-        read(file.read().split('\n'))
+        lines = file.read().split('\n')
+    read(lines)
+    measured(lines)
     reads = list(split((number, name, kind, register, at) for number, name, register, kind, at in loads))
     writes = list(split(stores))
     places, locals_with_pointers = (0, 0) if findings else judge(reads, writes, *follow(reads, writes))

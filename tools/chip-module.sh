@@ -1,7 +1,8 @@
 #!/usr/bin/env bash
 # chip-module.sh: writes target/module/rikkovan.ll, the module that librikkovan.a is compiled from, as text. rattle gives it
 # to its compiler and keeps it nowhere; so the library is built a second time, beside the first, with a compiler that keeps it.
-# That archive must be the first one byte for byte: the module is then the one that is proved. Needs a built library.
+# That archive must be the first one byte for byte: the module is then the one that is proved. Two of its forms mean another thing with
+# pointers of 32 bits; chip-pairs.py replaces them. Needs a built library.
 set -euo pipefail
 cd "$(dirname "$0")/.."
 
@@ -47,7 +48,8 @@ rm -rf "$out"
 mkdir -p "$out"
 toolchain_that_keeps_the_module
 second_library
-"$toolchain/bin/clang" --target=x86_64-unknown-linux-gnu -S -emit-llvm -Xclang -disable-llvm-passes -x ir "$out/module.bc" -o "$out/unchecked.ll"
+"$toolchain/bin/clang" --target=x86_64-unknown-linux-gnu -S -emit-llvm -Xclang -disable-llvm-passes -x ir "$out/module.bc" -o "$out/unpaired.ll"
+tools/chip-pairs.py "$out/unpaired.ll" >"$out/unchecked.ll"
 tools/chip-layout.py "$out/unchecked.ll" || fail 'the module may depend on the size of a pointer'
-rm "$out/librikkovan.a"
+rm "$out/librikkovan.a" "$out/unpaired.ll"
 mv "$out/unchecked.ll" "$out/rikkovan.ll"

@@ -13,7 +13,7 @@ tools=$(dirname "$(rt doc)")/toolchain/bin
 flags=(--target="$target" -ffunction-sections -fdata-sections -mllvm -trap-unreachable -mllvm -no-trap-after-noreturn
     -mllvm -disable-machine-licm -mllvm -disable-postra-machine-licm -mllvm -sink-common-insts=false
     --no-default-config -no-canonical-prefixes -fintegrated-cc1 -fno-crash-diagnostics -Werror -x ir)
-# Heads are passed by value, so each function that is compiled into its caller saves copies of one. -O1 would keep the zeros with which
+# A call that is one function needs the fewest instructions. -O1 would keep the zeros with which
 # rattle fills each local first, and to unroll the loops would take 28,000 bytes more.
 one_function=(-O2 -fno-unroll-loops -mllvm -inline-threshold=4000)
 

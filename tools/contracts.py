@@ -18,7 +18,7 @@ FEW, FEWEST, NAMED = 4, 2, 8
 
 
 class Item:
-    """A function or a constant of the code, or a definition."""
+    """A function, a constant or an enum of the code, or a definition."""
 
     def __init__(self, kind, file, owner, name, text, notes):
         self.kind, self.file, self.owner, self.name, self.text, self.notes = kind, file, owner, name, text, notes
@@ -67,13 +67,14 @@ def imports(text, word):
 
 
 def code_of(file):
-    """The functions and constants of a file of src/, each with the comment over it."""
+    """The functions, constants and enums of a file of src/, each with the comment over it."""
     lines, notes, owner = iter(file.read_text().split("\n")), [], ()
     for line in lines:
-        begins = re.match(r'( *)(?:pub )?(?:extern "C" )?(fn|const) (\w+)', line)
+        begins = re.match(r'( *)(?:pub )?(?:extern "C" )?(fn|const|enum) (\w+)', line)
         if begins:
-            body, end = [line], begins[1] + ("}" if begins[2] == "fn" else "];")
-            while body[-1] != end and not line.endswith(";"):
+            body, end = [line], begins[1] + ("];" if begins[2] == "const" else "}")
+            # A method that a trait leaves to its impls ends with its last clause.
+            while body[-1] != end and not (body[-1].endswith(";") and not any(part.endswith("{") for part in body)):
                 body.append(next(lines))
             yield Item(begins[2], file, owner, begins[3], "\n".join(body), " ".join(notes))
         if line.startswith(("impl ", "}")):
@@ -154,7 +155,7 @@ class Sources:
         """The items that have the text that an edit changes."""
         found = [item for item in self.items if item.file == edit.file and any(old in item.text for old in edit.olds)]
         if not found:
-            sys.exit(f"contracts: {edit.crate}/{edit.label} changes neither a function nor a constant nor a definition")
+            sys.exit(f"contracts: {edit.crate}/{edit.label} changes no function, constant, enum or definition")
         return found
 
 

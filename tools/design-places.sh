@@ -270,7 +270,7 @@ facts_of_three() {
 }
 
 machine_and_journal() {
-    together '(m: Machine|self)' 'journal: &mut' | grep -v 'answers: ' || true
+    together '(m: (&mut )?Machine|self)' 'journal: &mut' | grep -v 'answers: ' || true
 }
 
 counts_beside() {
@@ -346,7 +346,7 @@ kind 4g 'text put together or printed by a function of its own' texts
 kind 4h 'types with Clone and Copy alone' lines 'derive\(Clone, Copy\)\]'
 kind 4i 'what a method of the library does' by_hand
 kind 5a 'facts in the contracts of three functions or more' facts_of_three
-kind 5b 'machine, journal and answers together' together '(m: Machine|self)' 'journal: &mut' 'answers: '
+kind 5b 'machine, journal and answers together' together '(m: (&mut )?Machine|self)' 'journal: &mut' 'answers: '
 kind 5c 'machine and journal together' machine_and_journal
 kind 5d 'head and journal as lent, with answers or without' together '(buffer|head): &(mut )?.u8' 'journal: &'
 kind 5e 'text and place together' together 'text: &mut' 'at: usize'

@@ -7,6 +7,7 @@ page=${1:-target/spec.md}
 
 # A line with a number of # is a heading; the others are a crate and its files below specs/.
 order='## Numbers, and refusals in their order
+refusal Refusal
 record Bytes Four Items Refusals
 time Frequency MaybeHertz arithmetic
 clock Clock

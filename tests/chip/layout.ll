@@ -1,4 +1,4 @@
-; A small module in the forms that chip-layout.py knows: a slice is made, copied and read.
+; A small module in the forms that chip-pairs.py and chip-layout.py know: a slice is made, copied and read.
 source_filename = "layout"
 target datalayout = "e-m:e-p270:32:32-p271:32:32-p272:64:64-i64:64-i128:128-f80:128-n8:16:32:64-S128"
 target triple = "x86_64-unknown-linux-gnu"
@@ -34,6 +34,35 @@ none:
   unreachable
 }
 
+define internal { i8, ptr } @"slice::next"(ptr noundef %at) #0 {
+start:
+  %next = alloca [16 x i8], align 8
+  store i8 1, ptr %next, align 8
+  %there = getelementptr inbounds i8, ptr %next, i64 8
+  store ptr %at, ptr %there, align 8
+  %one = load { i8, ptr }, ptr %next, align 8
+  %again = alloca [16 x i8], align 8
+  store { i8, ptr } %one, ptr %again, align 8
+  ret { i8, ptr } %one
+}
+
+define internal void @"slice::move"(ptr noundef %to, ptr noundef %from, i64 noundef %count) #0 {
+start:
+  %here = ptrtoaddr ptr %to to i64
+  %there = ptrtoaddr ptr %from to i64
+  %apart = sub i64 %here, %there
+  %inside = icmp ult i64 %apart, %count
+  br i1 %inside, label %never, label %copy
+
+copy:
+  call void @llvm.memmove.p0.p0.i64(ptr %to, ptr %from, i64 %count, i1 false)
+  ret void
+
+never:
+  call void @llvm.trap()
+  unreachable
+}
+
 define noundef i64 @rikkovan_first(ptr noundef %plan, i64 noundef %plan_len) #0 {
 start:
   %slice = alloca [16 x i8], align 8
@@ -54,6 +83,10 @@ start:
   %rest = call { ptr, i64 } @"slice::rest"(ptr %place, i64 %plan_len)
   %rest_at = extractvalue { ptr, i64 } %rest, 0
   %second = load i8, ptr %rest_at, align 1
+  call void @"slice::move"(ptr %result, ptr %place, i64 %null)
+  %one = call { i8, ptr } @"slice::next"(ptr %place)
+  %one_at = extractvalue { i8, ptr } %one, 1
+  %third = load i8, ptr %one_at, align 1
   %most_at = getelementptr i8, ptr @static.0, i64 1
   %most = load i8, ptr %most_at, align 1
   %less = icmp ult i8 %second, %most

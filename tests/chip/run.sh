@@ -32,10 +32,12 @@ qemu=()
 
 layout_refuses() {
     local edit
-    tools/chip-layout.py tests/chip/layout.ll || return
+    ! tools/chip-layout.py tests/chip/layout.ll >/dev/null || { echo 'not refused: the module before chip-pairs.py'; return 1; }
+    tools/chip-pairs.py tests/chip/layout.ll >"$work/layout.ll"
+    tools/chip-layout.py "$work/layout.ll" || return
     while read -r edit; do
-        sed "$edit" tests/chip/layout.ll >"$work/fault.ll"
-        ! cmp -s tests/chip/layout.ll "$work/fault.ll" || { echo "changes nothing: $edit"; return 1; }
+        sed "$edit" "$work/layout.ll" >"$work/fault.ll"
+        ! cmp -s "$work/layout.ll" "$work/fault.ll" || { echo "changes nothing: $edit"; return 1; }
         ! tools/chip-layout.py "$work/fault.ll" >/dev/null || { echo "not refused: $edit"; return 1; }
     done < <(grep -v '^#' tests/chip/layout.faults)
 }

@@ -7,8 +7,7 @@ use native.Mathlib.Omega.{arith}
 use borrow.Author.Tests.{eqb-false, ltb-false}
 use lib.Dec.{eqb, ltb}
 use Rattle.time.specs.declared.Hertz.{Hertz}
-use Rattle.time.specs.declared.Reading.{Reading}
-use Rattle.time.specs.declared.Reading.TheVariants.{At}
+use Rattle.std.specs.Prelude.{Option, Some}
 use Rattle.record.specs.Bytes.{Bytes}
 use Rattle.record.specs.Refusals.{first_of}
 use Rattle.record.proofs.Refusals.{NoneRefused, none_refused, not_refused, not_refused_unless}
@@ -30,8 +29,8 @@ use Rattle.booking.specs.tests.{carried, book_tests}
 use Rattle.booking.specs.Booking.{book}
 
 -- a clock that carries a load is not below it
-carried_reads : (r : Reading) (load : ℕ) → carried r load ≡ 0 → (f : Hertz) → r ≡ At f → load ≤ f.0
-carried_reads r load e f q = ltb-false f.0 load (not_refused 38 (ltb f.0 load) (sym (ap (λ (x : Reading). carried x load) q) ∙ e))
+carried_reads : (r : Option Hertz) (load : ℕ) → carried r load ≡ 0 → (f : Hertz) → r ≡ Some f → load ≤ f.0
+carried_reads r load e f q = ltb-false f.0 load (not_refused 38 (ltb f.0 load) (sym (ap (λ (x : Option Hertz). carried x load) q) ∙ e))
 
 -- the tests of a booking, all passed
 module _ (t : Task) (h : Head) (e : first_of (book_tests t h) ≡ 0) where
@@ -47,7 +46,7 @@ module _ (t : Task) (h : Head) (e : first_of (book_tests t h) ≡ 0) where
   pub passed_41 : Encodable h → h.count < 16
   passed_41 ok = let found = none in omega (arith, eqb-false h.count 16 (not_refused 40 (eqb h.count 16) search), ok.room)
 
-  pub passed_39 : (f : Hertz) → hclk_of h ≡ At f → load_of (booked h ++ (t ∷ [])) ≤ f.0
+  pub passed_39 : (f : Hertz) → hclk_of h ≡ Some f → load_of (booked h ++ (t ∷ [])) ≤ f.0
   passed_39 = let found = none in carried_reads (hclk_of h) (load_of (booked h ++ (t ∷ []))) search
 
   pub passed_encodable : Encodable h → InBytes t → Encodable (with_task t h)
@@ -97,5 +96,5 @@ module _ (t : Task) (b : List ℕ) (bytes : Bytes b) (small : InBytes t) (done :
   book_distinct = ap (λ (h : Head). distinct (booked h)) book_head ∙ (passed_encodable t (head_of b) own before small).apart
 
   -- the load is at most HCLK
-  pub book_load : (f : Hertz) → hclk_of (head_of (book t b).buffer) ≡ At f → load_of (booked (head_of (book t b).buffer)) ≤ f.0
+  pub book_load : (f : Hertz) → hclk_of (head_of (book t b).buffer) ≡ Some f → load_of (booked (head_of (book t b).buffer)) ≤ f.0
   book_load f q = rw book_tasks (passed_39 t (head_of b) own f (sym (same_hclk t (head_of b)) ∙ (ap hclk_of (sym book_head) ∙ q)))

@@ -8,6 +8,11 @@ use native.Mathlib.Numerals.{add-one}
 use borrow.Author.Tests.{ne_eqb}
 use lib.ListN.{length, length-append}
 use lib.Seq.{get_or_at}
+use Rattle.std.specs.Prelude.{Ok}
+use Rattle.std.proofs.lemmas.Result.{err_from_is_err_and}
+use Rattle.refusal.specs.declared.Refusal.{Refusal}
+use Rattle.refusal.specs.Refusal.{number}
+use Rattle.refusal.proofs.Numbers.{not_0}
 use Rattle.record.specs.Bytes.{Bytes}
 use Rattle.record.specs.Refusals.{refuse, first_of}
 use Rattle.record.proofs.Refusals.{only_test, first_passes}
@@ -22,7 +27,8 @@ use Rattle.head.specs.Encodable.{Encodable}
 use Rattle.head.proofs.from_bytes.Decoding.{decode_encodable}
 use Rattle.head.proofs.tasks.Holding.{booked_length}
 use Rattle.head.specs.tasks.{with_task, without_task}
-use Rattle.call.specs.Call.{head_tests, Answers}
+use Rattle.call.specs.Call.{Answer, head_tests, Answers}
+use Rattle.call.proofs.Ending.{Refuses}
 use Rattle.call.proofs.Changed.{refusal_first}
 use Rattle.booking.specs.tests.{book_tests}
 use Rattle.booking.specs.Booking.{book}
@@ -32,14 +38,16 @@ use Rattle.booking.proofs.tests.Laws.{in_use, not_in_use}
 use Rattle.booking.proofs.Laws.{book_tasks, book_distinct}
 use Rattle.booking.proofs.Released.{release_gone}
 
-pub look_up_refused : (id : ℕ) (b : List ℕ) (n : ℕ) → n ≡ head_refusal b → (n ≡ 0 → ⊥) → Answers (look_up_call id b) (record { refusal = n; value = 0; entries = 0; taken = 0 }) b []
+pub look_up_refused : {b : List ℕ} {r : Answer} (id : ℕ) (n : Refusal) → number n ≡ head_refusal b → Refuses n r → Answers (look_up_call id b) r b []
 unfolding look_up_call
-look_up_refused id b n e z = rw (← e, ne_eqb n 0 z) (record { refusal = refl; value = refl; entries = refl; taken = refl; buffer = refl; journal = refl })
+look_up_refused {r = r} id n e q =
+    let p = err_from_is_err_and r q in
+    rw (p.1, p.2, ← e, ne_eqb (number n) 0 (not_0 n)) (record { refusal = refl; value = refl; entries = refl; taken = refl; buffer = refl; journal = refl })
 
-pub look_up_answers : (id : ℕ) (b : List ℕ) (v : ℕ) → head_refusal b ≡ 0 → v ≡ value_of (look_up id (booked (head_of b))) →
-    Answers (look_up_call id b) (record { refusal = 0; value = v; entries = 0; taken = 0 }) b []
+pub look_up_answers : {b : List ℕ} (id v : ℕ) → head_refusal b ≡ 0 → v ≡ value_of (look_up id (booked (head_of b))) →
+    Answers (look_up_call id b) (Ok (record { value = v; entries = 0; taken = 0 })) b []
 unfolding look_up_call
-look_up_answers id b v e is = record { refusal = sym e; value = rw e is; entries = refl; taken = refl; buffer = refl; journal = refl }
+look_up_answers id v e is = record { refusal = sym e; value = rw e is; entries = refl; taken = refl; buffer = refl; journal = refl }
 
 -- in a head that has a record
 module _ (b : List ℕ) (bytes : Bytes b) (read : head_refusal b ≡ 0) where

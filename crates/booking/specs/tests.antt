@@ -1,7 +1,6 @@
 -- The tests of a booking on a task and a head.
-use Rattle.std.specs.Prelude.{ℕ, not, List, [], ◌∷◌, ◌++◌, eqb, ltb}
-use Rattle.time.specs.declared.Reading.{Reading}
-use Rattle.time.specs.declared.Reading.TheVariants.{At, Unreadable}
+use Rattle.std.specs.Prelude.{ℕ, not, List, [], ◌∷◌, ◌++◌, eqb, ltb, Option, Some, None}
+use Rattle.time.specs.declared.Hertz.{Hertz}
 use Rattle.record.specs.Refusals.{refuse}
 use Rattle.task.specs.declared.Task.{Task}
 use Rattle.task.specs.Task.{task_ok, has_id}
@@ -11,9 +10,9 @@ use Rattle.clock_read.specs.Hpsys.{hclk_of}
 use Rattle.load.specs.Load.{load_of}
 
 -- "34 HCLK unreadable at .. a booking", "39 for the load with the new task and the present HCLK"
-abbrev pub carried : Reading → ℕ → ℕ
-carried (At f) load = refuse 39 (ltb f.0 load)
-carried Unreadable load = 34
+abbrev pub carried : Option Hertz → ℕ → ℕ
+carried (Some f) load = refuse 39 (ltb f.0 load)
+carried None load = 34
 
 -- "Booking, in order: 16, 40 id in use, 41 sixteen tasks, 34, 39"
 abbrev pub book_tests : Task → Head → List ℕ

@@ -1,37 +1,34 @@
 // The tests of a booking, on a task and a head.
 ghost use Rattle.std.specs.Prelude.{◌≡◌};
+ghost use Rattle.refusal.specs.Refusal.{number_of};
 ghost use Rattle.record.specs.Refusals.{first_of};
 ghost use Rattle.head.specs.Encodable.{Encodable};
 ghost use Rattle.booking.specs.tests.{book_tests};
 
 use head::Head;
+use refusal::Refusal;
 use task::Task;
-use time::Reading;
 
-// 16, 40, 41, 34 or 39, and 0 for a task that can be booked.
-pub fn refusal(head: Head, task: Task) -> u8
-    requires { Encodable head }
-    ensures { result ≡ first_of (book_tests task head) }
+// 16, 40, 41, 34 and 39.
+#[tactic(auto, unfolding(record::specs::Refusals::first_of))]
+pub fn test(head: &Head, task: Task) -> Result<(), Refusal>
+    requires { Encodable head.now }
+    ensures { number_of result ≡ first_of (book_tests task head.now) }
 {
-    let tasks = head.tasks;
-    let count = head.count;
     if !task::rules::ok(task) {
-        return 16;
+        return Err(Refusal::Task);
     }
-    if task::rules::has_id(tasks, count, task.id) {
-        return 40;
+    if task::rules::has_id(head.booked(), task.id) {
+        return Err(Refusal::IdInUse);
     }
-    if count == 16 {
-        return 41;
+    if head.count == 16 {
+        return Err(Refusal::Tasks);
     }
-    let Reading::At(hclk) = clock_read::get_hclk_freq(head) else {
-        return 34;
-    };
-    let after = head::tasks::with_task(head, task);
-    let places = after.tasks;
-    let limit = hclk.0 as u64;
-    if limit < load::load(places, after.count as usize) {
-        return 39;
+    let hclk = clock_read::get_hclk_freq(head).ok_or(Refusal::HclkUnreadable)?;
+    let mut after = *head;
+    head::tasks::book(&mut after, task);
+    if u64::from(hclk.0) < load::total(after.booked()) {
+        return Err(Refusal::Load);
     }
-    0
+    Ok(())
 }

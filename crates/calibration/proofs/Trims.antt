@@ -9,8 +9,8 @@ use lib.Dec.{eqb, leb, ltb}
 use lib.ListN.{length, get_or, drop, length-append, get_or-append}
 use lib.Seq.{get_or_at}
 use borrow.Author.Tests.{lt-ltb}
-use Rattle.time.specs.declared.Reading.{Reading}
-use Rattle.time.specs.declared.Reading.TheVariants.{At, Unreadable}
+use Rattle.std.specs.Prelude.{Option, Some, None}
+use Rattle.time.specs.declared.Hertz.{Hertz}
 use Rattle.head.specs.declared.Head.{Head}
 use Rattle.register.specs.Word.{word_of}
 use Rattle.clock_read.specs.Hpsys.{hclk_of}
@@ -58,9 +58,9 @@ keeps_delay : (us : ℕ) → Keeps (delay us)
 unfolding delay
 keeps_delay us = keeps_unless_ended (record { keeps = λ r t. by (hclk_of r.head) r t })
   where
-    by : (f : Reading) (r : Run) → TrimsWithin r.entries → TrimsWithin (delayed f us r).entries
-    by (At f) r t = one_more r.entries (entry 48 (cycles f.0 us)) t (λ e. absurd (omega arith))
-    by Unreadable r t = t
+    by : (f : Option Hertz) (r : Run) → TrimsWithin r.entries → TrimsWithin (delayed f us r).entries
+    by (Some f) r t = one_more r.entries (entry 48 (cycles f.0 us)) t (λ e. absurd (omega arith))
+    by None r t = t
 
 keeps_measure : (a : List ℕ) → Keeps (measure a)
 unfolding measure

@@ -6,6 +6,7 @@ ghost use Rattle.calibration.specs.search.{next_trim, search};
 use journal::Machine;
 
 // The trim for the next measurement, if there is one.
+#[tactic(auto, unfolding(crate::specs::search::next_trim))]
 fn next_trim(trim: u16, step: u16, hxt: u16, hrc: u16) -> u16
     requires { (step ≤ trim) × (trim + step ≤ 1023) }
     ensures { result ≡ next_trim trim step hxt hrc }
@@ -17,29 +18,27 @@ fn next_trim(trim: u16, step: u16, hxt: u16, hrc: u16) -> u16
 }
 
 // Binary search for the trim: eleven measurements at most, fewer where the counts come close.
-pub fn run(m: Machine, journal: &mut [u32], answers: &[u16]) -> Machine
-    requires { Lent 55 m journal.old (taking answers.now) }
-    ensures { Does 55 (search 11 512 256 0 answers.now) m result journal.old journal.new (taking answers.now) }
+pub fn run(m: &mut Machine, journal: &mut [u32], answers: &[u16])
+    requires { Lent 55 m.old journal.old (taking answers.now) }
+    ensures { Does 55 (search 11 512 256 0 answers.now) m.old m.new journal.old journal.new (taking answers.now) }
 {
-    let mut m = m;
     let mut ct_val: u16 = 0x200;
     let mut step_unit: u16 = 0x100;
     let mut cnt_diff: u16 = 0;
     for _ in 0u8..11 {
-        m = crate::measure::measurement(m, journal, answers, ct_val);
-        let stop = m.stop;
-        if stop != 0 {
-            return m;
+        crate::measure::measurement(m, journal, answers, ct_val);
+        if m.stop.is_some() {
+            return;
         }
-        let taken = m.taken;
-        let hxt_cnt = answers[taken - 2];
-        let hrc_cnt = answers[taken - 1];
+        let hxt_cnt = answers[m.taken - 2];
+        let hrc_cnt = answers[m.taken - 1];
         ct_val = next_trim(ct_val, step_unit, hxt_cnt, hrc_cnt);
         cnt_diff = crate::measure::difference(hxt_cnt, hrc_cnt);
         if cnt_diff < 64 {
-            return crate::measure::judged(m, cnt_diff);
+            crate::measure::judged(m, cnt_diff);
+            return;
         }
-        step_unit = step_unit >> 1;
+        step_unit >>= 1;
     }
-    crate::measure::judged(m, cnt_diff)
+    crate::measure::judged(m, cnt_diff);
 }

@@ -6,6 +6,7 @@ use mathlib.Core.List.{List, [], ◌++◌}
 use lib.Dec.{eqb}
 use lib.ListN.{length}
 use borrow.Author.Tests.{eqb-true, ne_eqb}
+use Rattle.std.specs.Prelude.{Ok}
 use Rattle.record.specs.Refusals.{first_of}
 use Rattle.record.proofs.Refusals.{none_refused, only_test, first_passes}
 use Rattle.head.specs.declared.Head.{Head}
@@ -13,27 +14,23 @@ use Rattle.head.specs.Record.{buffer_bytes, head_refusal, head_of, written}
 use Rattle.head.specs.Encodable.{Encodable}
 use Rattle.head.proofs.from_bytes.Encoding.{decode_encode}
 use Rattle.journal.specs.declared.Machine.{Machine}
-use Rattle.journal.specs.Run.{begin}
-use Rattle.journal.specs.Machine.{machine_of, Ran}
-use Rattle.call.specs.declared.Answer.{Answer}
-use Rattle.call.specs.declared.Admitted.{Admitted}
-use Rattle.call.specs.Call.{head_tests, performed, changing_head, head_call, Answers, Admits, Finishes}
+use Rattle.journal.specs.Machine.{State, Ran}
+use Rattle.call.specs.Call.{Answer, head_tests, performed, changing_head, head_call, Answers, Admits, Finishes}
 use Rattle.call.proofs.Ending.{call_ran}
 
-abbrev changed : (Head → Head) → Machine → Machine
-changed f m = record { head = f m.head; at = m.at; taken = m.taken; stop = m.stop }
-
--- a machine whose head is changed has done `changing_head`
-pub ran_changing : (f : Head → Head) (m m' : Machine) (j : List ℕ) → m' ≡ changed f m → Ran (changing_head f) m m' j j
-ran_changing f m m' j e = record { does = λ r j₀ x. record { machine = e ∙ ap (changed f) x.machine; journal = x.journal } }
-
 -- a call that passes its tests and ends with the head changed
-module _ {ts : List ℕ} {b : List ℕ} {o : Admitted} (x : Admits ts b o) where
-  pub call_changed : (ns : List ℕ) (f : Head → Head) (b' : List ℕ) (h : Head) (m : Machine) (r : Answer) → o.refusal ≡ 0 → first_of ns ≡ 0 →
-      h ≡ f o.head → m ≡ machine_of (begin h) → Finishes m 0 r b b' → Answers (performed (first_of (ts ++ ns)) (changing_head f) 0 b []) r b' []
-  call_changed ns f b' h m r z q e s =
-      call_ran x ns (changing_head f) 0 [] b' [] (machine_of (begin o.head)) m r z q refl
-      (ran_changing f (machine_of (begin o.head)) m [] (s ∙ ap (λ (k : Head). machine_of (begin k)) e))
+module _ {ts b : List ℕ} {m : Machine} (x : Admits ts b (Ok m)) (ns : List ℕ) (f : Head → Head) where
+  changes : {k : Head} → k ≡ f m.head → Ran (changing_head f) m (record m { head = k }) [] []
+  changes e = record {
+    does = λ r j₀ at. record {
+      machine = rw e (ap (λ (w : State). record { head = f w.head; at = w.at; taken = w.taken; stop = w.stop }) at.machine);
+      journal = at.journal;
+    };
+  }
+
+  pub call_changed : {b' : List ℕ} {k : Head} {r : Answer} → first_of ns ≡ 0 → k ≡ f m.head → Finishes (record m { head = k }) 0 r b b' →
+      Answers (performed (first_of (ts ++ ns)) (changing_head f) 0 b []) r b' []
+  call_changed z e = call_ran x ns z (changes e)
 
 -- a call on the head alone answers the first refusal of its tests; it leaves the changed head's record, or nothing changed
 module _ (tests : List ℕ) (f : Head → Head) (b : List ℕ) where

@@ -5,13 +5,13 @@ use Rattle.verdict.specs.Verdict.{verdict, number_of}
 use Rattle.head.specs.declared.Head.{Head}
 use Rattle.head.specs.Record.{head_of}
 use Rattle.journal.specs.Run.{Effect, begin}
-use Rattle.call.specs.Call.{Result, answers_tests, performed}
+use Rattle.call.specs.Call.{Left, answers_tests, performed}
 
 -- the plan's 1 to 14 come after the head's
 abbrev pub lent_plan_tests : List ℕ → List ℕ
 lent_plan_tests pb = number_of (verdict pb) ∷ []
 
-abbrev pub plan_call : Effect → ℕ → List ℕ → List ℕ → List ℕ → List ℕ → Result
+abbrev pub plan_call : Effect → ℕ → List ℕ → List ℕ → List ℕ → List ℕ → Left
 plan_call f value pb b j a = performed (first_of (answers_tests b j a ++ lent_plan_tests pb)) f value b j
 
 -- the head as an effect leaves it

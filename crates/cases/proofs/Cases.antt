@@ -5,12 +5,11 @@ use mathlib.Core.Bool.{true, false, cond}
 use mathlib.Core.List.{List, [], ◌∷◌}
 use lib.Dec.{eqb}
 use lib.ListN.{set, replicate}
+use Rattle.std.specs.Prelude.{Some, None, Ok}
 use Rattle.record.specs.Bytes.{is_within}
 use Rattle.record.specs.Refusals.{first_of}
 use Rattle.clock.specs.Clock.{dll_hz, divided, shifted}
-use Rattle.verdict.specs.declared.Verdict.TheVariants.{Accepted}
 use Rattle.dvfs.specs.declared.hpsys.HpsysDvfsMode.TheVariants.{D0, D1, S0, S1}
-use Rattle.dvfs.specs.declared.hpsys.HpsysModeFound.TheVariants.{Mode, OutOfRange}
 use Rattle.dvfs.specs.Hpsys.{mode_of}
 use Rattle.journal.specs.Run.{Run, begin, unless_ended, halted, store, entry, delay, poll, measure}
 use Rattle.head.specs.declared.Head.{Head}
@@ -27,7 +26,7 @@ use Rattle.task.specs.Task.{task_ok, all_ok, has_id, distinct}
 use Rattle.record.specs.Four.{four_in, four_bytes}
 use Rattle.task.specs.bytes.{task_in, task_bytes, tasks_in, tasks_fit, places_in}
 use Rattle.load.specs.Load.{share_of, load_of}
-use Rattle.call.specs.Call.{Result, performed}
+use Rattle.call.specs.Call.{Left, performed}
 use Rattle.booking.specs.Booking.{book}
 use Rattle.clock_read.specs.Hpsys.{dll_reading, sys_of, hclk_of}
 use Rattle.calibration.specs.measure.{measurement, difference, judged_difference}
@@ -49,7 +48,7 @@ number b = number_of (verdict b)
 -- plans: the default plan with other bytes, at the places of document 01's record
 plan_cases :
     -- "Default plan: HCLK 240, PCLK1 120, PCLK2 3.75 MHz, USB divider 4."
-    (verdict default_record ≡ Accepted (record {
+    (verdict default_record ≡ Ok (record {
       hclk = record { 0 = 240000000 };
       pclk1 = record { 0 = 120000000 };
       pclk2 = record { 0 = 3750000 };
@@ -74,14 +73,14 @@ plan_cases = (refl, refl, refl, refl, refl, refl, refl, refl)
 
 mode_cases :
     -- "Modes: 24 D0, 25 and 48 D1, 49 and 144 S0, 145 and 240 S1, 241 none."
-    (mode_of 24 ≡ Mode D0)
-    × (mode_of 25 ≡ Mode D1)
-    × (mode_of 48 ≡ Mode D1)
-    × (mode_of 49 ≡ Mode S0)
-    × (mode_of 144 ≡ Mode S0)
-    × (mode_of 145 ≡ Mode S1)
-    × (mode_of 240 ≡ Mode S1)
-    × (mode_of 241 ≡ OutOfRange)
+    (mode_of 24 ≡ Some D0)
+    × (mode_of 25 ≡ Some D1)
+    × (mode_of 48 ≡ Some D1)
+    × (mode_of 49 ≡ Some S0)
+    × (mode_of 144 ≡ Some S0)
+    × (mode_of 145 ≡ Some S1)
+    × (mode_of 240 ≡ Some S1)
+    × (mode_of 241 ≡ None)
 unfolding mode_of
 mode_cases = (refl, refl, refl, refl, refl, refl, refl, refl)
 
@@ -148,10 +147,10 @@ task id cycles = record { id = id; cycles = cycles; period = 1000 }
 abbrev buffer : List ℕ
 buffer = written at240 (replicate buffer_bytes 0)
 
-abbrev first : Result
+abbrev first : Left
 first = book (task 1 120000) buffer
 
-abbrev second : Result
+abbrev second : Left
 second = book (task 2 80000) first.buffer
 
 task_cases :

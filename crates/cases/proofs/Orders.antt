@@ -5,6 +5,7 @@ use mathlib.Core.Path.{◌≡◌, refl}
 use mathlib.Core.Bool.{true, false}
 use mathlib.Core.List.{List, [], ◌∷◌}
 use lib.ListN.{set, replicate}
+use Rattle.std.specs.Prelude.{Err}
 use Rattle.record.specs.Bytes.{is_within}
 use Rattle.record.specs.Four.{four_in, four_bytes}
 use Rattle.record.specs.Items.{items, joined}
@@ -41,11 +42,11 @@ use Rattle.cases.proofs.Fit.{put, sound}
 
 load_orders :
     -- 17 tasks and a byte: 1, not 41
-    ((load_check (replicate 154 0)).refusal ≡ 1)
+    (load_check (replicate 154 0) ≡ Err 1)
     -- 17 tasks of id 0: 41, not 16
-    × ((load_check (replicate 153 0)).refusal ≡ 41)
+    × (load_check (replicate 153 0) ≡ Err 41)
     -- two tasks of id 0: 16, not 40
-    × ((load_check (replicate 18 0)).refusal ≡ 16)
+    × (load_check (replicate 18 0) ≡ Err 16)
 unfolding load_check check_refusal first_of listed_tasks items task_in four_in all_ok task_ok distinct has_id
 load_orders = (refl, refl, refl)
 

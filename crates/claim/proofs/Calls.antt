@@ -7,11 +7,11 @@ use native.Mathlib.Omega.{arith}
 use lib.Dec.{eqb, ltb}
 use lib.ListN.{length}
 use borrow.Author.Tests.{eqb-false, eq-eqb, ne_eqb, ltb-false}
+use Rattle.std.specs.Prelude.{Ok, Err}
 use Rattle.record.specs.Bytes.{Bytes}
 use Rattle.record.specs.Refusals.{first_of}
 use Rattle.record.proofs.Refusals.{none_refused, not_refused}
 use Rattle.plan.specs.declared.Plan.{Plan}
-use Rattle.plan.specs.declared.bytes.Decoded.TheVariants.{Read, Unread}
 use Rattle.plan.specs.bytes.{plan_of, record_refusal, decoded}
 use Rattle.plan_clocks.specs.Clocks.{hclk_hz}
 use Rattle.verdict.specs.tests.{plan_refusal}
@@ -32,7 +32,7 @@ use Rattle.journal.specs.Run.{Run, Effect, begin}
 use Rattle.fit.specs.rail.{rail_limit}
 use Rattle.fit.specs.Fit.{fits}
 use Rattle.load.specs.Load.{load_of}
-use Rattle.call.specs.Call.{Result, head_tests, journal_tests, answers_tests, refused, finished, performed, head_call}
+use Rattle.call.specs.Call.{Left, head_tests, journal_tests, answers_tests, refused, finished, performed, head_call}
 use Rattle.head.specs.tasks.{holding, without, with_task, without_task}
 use Rattle.head.proofs.tasks.Holding.{booked_holding}
 use Rattle.head.proofs.tasks.Kept.{less_encodable}
@@ -108,7 +108,7 @@ module _ (b : List ℕ) (fit : FitHead b) (ts : List Task) (holds : booked (head
   unfolding verdict decoded
   accepted pb e = by (eqb (record_refusal pb) 0) refl e
     where
-      by : (t : Bool) → eqb (record_refusal pb) 0 ≡ t → number_of (judged (cond t (Read (plan_of pb)) (Unread (record_refusal pb)))) ≡ 0 → plan_refusal (plan_of pb) ≡ 0
+      by : (t : Bool) → eqb (record_refusal pb) 0 ≡ t → number_of (judged (cond t (Ok (plan_of pb)) (Err (record_refusal pb)))) ≡ 0 → plan_refusal (plan_of pb) ≡ 0
       by true q e = sym (number_is (plan_of pb)) ∙ e
       by false q e = absurd (eqb-false (record_refusal pb) 0 q e)
 
@@ -204,7 +204,7 @@ module _ (b : List ℕ) (fit : FitHead b) (ts : List Task) (holds : booked (head
 
   -- a call on the head alone, answered done, that leaves the tasks `xs` booked
   module _ (c : Call) (tests : List ℕ) (f : Head → Head) (e : (head_call tests f b).refusal ≡ 0) (enc : Encodable (f h)) (xs : List Task) (is : f h ≡ holding xs h) where
-    abbrev o : Result
+    abbrev o : Left
     o = head_call tests f b
 
     left : (head_refusal o.buffer ≡ 0) × (head_of o.buffer ≡ f h)

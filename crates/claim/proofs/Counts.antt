@@ -5,12 +5,10 @@ use mathlib.Core.List.{List, [], ◌∷◌}
 use native.Mathlib.Omega.{arith}
 use lib.Dec.{eqb, ltb}
 use lib.ListN.{length, drop, length-append}
-use Rattle.time.specs.declared.Reading.{Reading}
-use Rattle.time.specs.declared.Reading.TheVariants.{At, Unreadable}
+use Rattle.std.specs.Prelude.{Option, Some, None}
+use Rattle.time.specs.declared.Hertz.{Hertz}
 use Rattle.time.specs.Frequency.{hz_or}
 use Rattle.clock.specs.declared.Dll.{Dll}
-use Rattle.clock.specs.declared.MaybeDll.{MaybeDll}
-use Rattle.clock.specs.declared.MaybeDll.TheVariants.{Absent, Present}
 use Rattle.plan.specs.declared.Plan.{Plan}
 use Rattle.plan_clocks.specs.Clocks.{hclk_hz}
 use Rattle.register.specs.Word.{byte_b, byte_c}
@@ -74,9 +72,9 @@ delays : (us : ℕ) → Writes 1 (delay us)
 unfolding delay
 delays us = unless 1 _ (λ r. by (hclk_of r.head) r)
   where
-    by : (h : Reading) → Writes 1 (delayed h us)
-    by (At f) r = simp length-append (omega arith)
-    by Unreadable r = omega arith
+    by : (h : Option Hertz) → Writes 1 (delayed h us)
+    by (Some f) r = simp length-append (omega arith)
+    by None r = omega arith
 
 waits : (kind : ℕ) (a : List ℕ) → Writes 1 (wait kind a)
 unfolding wait
@@ -152,10 +150,10 @@ relocks : (d : Dll) → Writes 2 (relocked 3 d)
 unfolding relocked dll_off dll_on
 relocks d = then 1 1 (dll_off 3) (dll_on 3 d) (λ r. stores 3 _ r) (stores 3 _)
 
-dll1 : (m : MaybeDll) (a : List ℕ) → Writes 6 (planned_dll1 m a)
+dll1 : (m : Option Dll) (a : List ℕ) → Writes 6 (planned_dll1 m a)
 unfolding configure_dll set_dll
-dll1 Absent a r = none 6 r
-dll1 (Present d) a r =
+dll1 None a r = none 6 r
+dll1 (Some d) a r =
     let r1 = vddpsw_on (hpbg_on r) in
     let r2 = relocked 3 d r1 in
     omega (arith, bandgap r, relocks d r1, delays 10 r2, waits 3 a (delay 10 r2))
@@ -232,9 +230,9 @@ refuses : Writes 0 refuse_unread
 unfolding refuse_unread halted
 refuses r = by (lpsys_hclk_of r.head) r
   where
-    by : (f : Reading) → Writes 0 (unless_read f)
-    by (At f) = none 0
-    by Unreadable = unless 0 _ (λ r. omega arith)
+    by : (f : Option Hertz) → Writes 0 (unless_read f)
+    by (Some f) = none 0
+    by None = unless 0 _ (λ r. omega arith)
 
 slows : Writes 6 slow_down
 unfolding slow_down
@@ -255,6 +253,6 @@ taken_most (x ∷ a) = by (eqb x 0) (poll a) (taken_most a)
     by true never_ready e = omega arith
     by false q e = omega arith
 
-pub taken_within : (m : MaybeDll) (a : List ℕ) → taken_for m a ≤ length a
-taken_within Absent a = omega arith
-taken_within (Present d) a = taken_most a
+pub taken_within : (m : Option Dll) (a : List ℕ) → taken_for m a ≤ length a
+taken_within None a = omega arith
+taken_within (Some d) a = taken_most a

@@ -5,7 +5,8 @@ use mathlib.Core.Bool.{Bool, true, false, cond}
 use native.Mathlib.Omega.{arith}
 use lib.Dec.{eqb}
 use borrow.Author.Tests.{leb-true}
-use Rattle.time.specs.declared.Reading.{Reading}
+use Rattle.std.specs.Prelude.{Option}
+use Rattle.time.specs.declared.Hertz.{Hertz}
 use Rattle.head.specs.declared.Head.{Head}
 use Rattle.head.specs.Head.{with_wake_count}
 use Rattle.clock_read.specs.Hpsys.{reg, hertz, sys_of, hclk_of}
@@ -37,7 +38,7 @@ unfolding rail_limit higher
 rail_least h p =
     least (eqb (reg h 12) 0) (met S1 (reg h 13) (reg h 14)) (met S0 (reg h 13) (reg h 14)) (met D1 (reg h 15) (reg h 16)) (met D0 (reg h 15) (reg h 16)) p
 
-at_least : {n : ℕ} (r : Reading) (f : ℕ) → Least n r → r ≡ hertz f → n ≤ f
+at_least : {n : ℕ} (r : Option Hertz) (f : ℕ) → Least n r → r ≡ hertz f → n ≤ f
 at_least {n} r f l e = by (rw e at l)
   where
     by : Least n (hertz f) → n ≤ f

@@ -7,11 +7,11 @@ use native.Mathlib.Omega.{arith}
 use lib.Dec.{eqb, leb}
 use borrow.Author.Tests.{leb-true}
 use lib.ListN.{length, get_or, take, drop}
+use Rattle.std.specs.Prelude.{Ok, Err}
 use Rattle.record.specs.Bytes.{two_bytes, is_within}
 use Rattle.record.specs.Refusals.{refuse, first_of}
 use Rattle.record.proofs.Refusals.{Each, first_each, refuse_each}
 use Rattle.plan.specs.declared.Plan.{Plan}
-use Rattle.plan.specs.declared.bytes.Decoded.TheVariants.{Read, Unread}
 use Rattle.plan.specs.codes.{coded}
 use Rattle.plan.specs.Plan.{legal}
 use Rattle.plan.specs.tests.{record_tests}
@@ -72,7 +72,7 @@ pub verdict_most : (pb : List ℕ) → number_of (verdict pb) ≤ 14
 unfolding verdict decoded
 verdict_most pb = by (eqb (record_refusal pb) 0)
   where
-    by : (t : Bool) → number_of (judged (cond t (Read (plan_of pb)) (Unread (record_refusal pb)))) ≤ 14
+    by : (t : Bool) → number_of (judged (cond t (Ok (plan_of pb)) (Err (record_refusal pb)))) ≤ 14
     by true = subst (λ (n : ℕ). n ≤ 14) (sym (number_is (plan_of pb))) (plan (plan_of pb))
     by false = bytes pb
 

@@ -7,11 +7,11 @@ use native.Mathlib.Omega.{arith}
 use lib.Dec.{eqb, ltb}
 use lib.ListN.{length}
 use borrow.Author.Tests.{ltb-true}
+use Rattle.std.specs.Prelude.{Option, Some, None}
 use Rattle.record.specs.Refusals.{refuse, first_of}
 use Rattle.record.proofs.Refusals.{Each, first_each, refuse_each}
 use Rattle.record.proofs.Bytes.{and_left}
-use Rattle.clock.specs.declared.MaybeDll.{MaybeDll}
-use Rattle.clock.specs.declared.MaybeDll.TheVariants.{Absent, Present}
+use Rattle.clock.specs.declared.Dll.{Dll}
 use Rattle.plan.specs.bytes.{plan_of}
 use Rattle.plan_clocks.specs.Clocks.{hclk_hz}
 use Rattle.verdict.specs.Verdict.{verdict, number_of}
@@ -90,9 +90,9 @@ module _ (b : List ℕ) (fit : FitHead b) where
       each (head_tests b ++ book_tests t h) (head, own)
 
 -- how a guarded change ends
-pub never_stopped : (m : MaybeDll) (a : List ℕ) → Never (stop_for m a)
-never_stopped Absent a = never 0 refl
-never_stopped (Present d) a = by (one_ready a)
+pub never_stopped : (m : Option Dll) (a : List ℕ) → Never (stop_for m a)
+never_stopped None a = never 0 refl
+never_stopped (Some d) a = by (one_ready a)
   where
     by : (t : Bool) → Never (cond t 0 36)
     by true = never 0 refl

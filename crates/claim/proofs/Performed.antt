@@ -17,37 +17,37 @@ use Rattle.head.proofs.from_bytes.Encoding.{decode_encode}
 use Rattle.journal.specs.Run.{Run, replayed}
 use Rattle.journal.proofs.Moments.{Moments, moments_now}
 use Rattle.fit.specs.Fit.{fits}
-use Rattle.call.specs.Call.{Result, finished}
+use Rattle.call.specs.Call.{Left, finished}
 use Rattle.claim.specs.Moment.{head_with, SafeAt}
 use Rattle.claim.specs.Claim.{Call, entries_of, moment, Safe, after, Asked, Good, FitHead}
 use Rattle.claim.proofs.Heads.{safe}
 use Rattle.claim.proofs.Written.{written_bytes}
 use Rattle.claim.proofs.Never.{Never}
 
--- a result whose numbers have room in the word that C gets
-pub record InWord (o : Result) : Type 0 where
+-- what a call leaves, with numbers that have room in the word that C gets
+pub record InWord (o : Left) : Type 0 where
   pub refusal : o.refusal < 64
   pub value : o.value ≡ 0
   pub entries : o.entries ≤ 20
   pub taken : o.taken ≤ 4096
 
 -- a good call that leaves a fit head
-pub record Fine (b : List ℕ) (c : Call) (o : Result) (ts : List Task) : Type 0 where
+pub record Fine (b : List ℕ) (c : Call) (o : Left) (ts : List Task) : Type 0 where
   pub good : Good b c o ts
   pub next : FitHead o.buffer
   pub word : InWord o
 
 -- nothing written and nothing taken
-pub record Quiet (o : Result) : Type 0 where
+pub record Quiet (o : Left) : Type 0 where
   pub value : o.value ≡ 0
   pub entries : o.entries ≡ 0
   pub taken : o.taken ≡ 0
 
-pub quiet_word : (o : Result) → Quiet o → Never o.refusal → InWord o
+pub quiet_word : (o : Left) → Quiet o → Never o.refusal → InWord o
 quiet_word o q never = record { refusal = never.small; value = q.value; entries = omega (arith, q.entries); taken = omega (arith, q.taken) }
 
 -- a call without entries stands at the head that it got
-pub no_entries : (b : List ℕ) (o : Result) → o.entries ≡ 0 → entries_of o ≡ []
+pub no_entries : (b : List ℕ) (o : Left) → o.entries ≡ 0 → entries_of o ≡ []
 no_entries b o e = ap (λ (n : ℕ). take n o.journal) e
 
 quiet : (b es : List ℕ) → es ≡ [] → (k : ℕ) → fits (head_of b) ≡ true → Safe (head_with (head_of b) (replayed (head_of b).regs (take k es)))
@@ -58,16 +58,16 @@ quiet_last : (b es : List ℕ) → es ≡ [] → replayed (head_of b).regs es �
 unfolding replayed
 quiet_last b es e = rw e
 
-pub quiet_moments : (b : List ℕ) (o : Result) → o.entries ≡ 0 → fits (head_of b) ≡ true → (k : ℕ) → Safe (moment b o k)
+pub quiet_moments : (b : List ℕ) (o : Left) → o.entries ≡ 0 → fits (head_of b) ≡ true → (k : ℕ) → Safe (moment b o k)
 quiet_moments b o e fit k = quiet b (entries_of o) (no_entries b o e) k fit
 
 -- so its last moment is that head
-pub quiet_regs : (b : List ℕ) (o : Result) → o.entries ≡ 0 → (head_of o.buffer).regs ≡ (head_of b).regs → replayed (head_of b).regs (entries_of o) ≡ (head_of o.buffer).regs
+pub quiet_regs : (b : List ℕ) (o : Left) → o.entries ≡ 0 → (head_of o.buffer).regs ≡ (head_of b).regs → replayed (head_of b).regs (entries_of o) ≡ (head_of o.buffer).regs
 quiet_regs b o e same = quiet_last b (entries_of o) (no_entries b o e) ∙ sym same
 
 module _ (b : List ℕ) (fit : FitHead b) (c : Call) (ts : List Task) (holds : booked (head_of b) ≡ ts) where
   -- a call that leaves the bytes as they were
-  pub unchanged : (o : Result) → Quiet o → o.buffer ≡ b → after c o.refusal ts ≡ ts → Asked c b o ts → Never o.refusal → Fine b c o ts
+  pub unchanged : (o : Left) → Quiet o → o.buffer ≡ b → after c o.refusal ts ≡ ts → Asked c b o ts → Never o.refusal → Fine b c o ts
   unchanged o silent same kept asked never =
       record {
         good = record {
@@ -88,7 +88,7 @@ module _ (b : List ℕ) (fit : FitHead b) (c : Call) (ts : List Task) (holds : b
     abbrev h : Head
     h = head_of b
 
-    abbrev o : Result
+    abbrev o : Left
     o = finished r 0 b j
 
     entries_are : entries_of o ≡ r.entries

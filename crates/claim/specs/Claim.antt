@@ -16,7 +16,7 @@ use Rattle.load.specs.Load.{load_of}
 use Rattle.fit.specs.rail.{rail_limit}
 use Rattle.fit.specs.Fit.{source_is_on, fits}
 use Rattle.lpsys_request.specs.Safe.{lpsys_hz}
-use Rattle.call.specs.Call.{Result}
+use Rattle.call.specs.Call.{Left}
 use Rattle.head.specs.tasks.{without}
 use Rattle.claim.specs.Moment.{head_with, stop_for}
 use Rattle.guard.specs.Guard.{change_refusal, change_call}
@@ -34,7 +34,7 @@ pub data Call : Type 0 where
   requesting : ℕ → List ℕ → Call
 
 -- what a call leaves of a head's bytes
-abbrev pub perform : Call → List ℕ → Result
+abbrev pub perform : Call → List ℕ → Left
 perform (changing pb j a) b = change_call pb b j a
 perform (booking t) b = book t b
 perform (releasing id) b = release id b
@@ -52,10 +52,10 @@ AllTyped [] = Unit {0}
 AllTyped (c ∷ cs) = Typed c × AllTyped cs
 
 -- "A moment is the head a call got with the stores of its first entries, none to all, put in"
-abbrev pub entries_of : Result → List ℕ
+abbrev pub entries_of : Left → List ℕ
 entries_of o = take o.entries o.journal
 
-abbrev pub moment : List ℕ → Result → ℕ → Head
+abbrev pub moment : List ℕ → Left → ℕ → Head
 moment b o k = head_with (head_of b) (replayed (head_of b).regs (take k (entries_of o)))
 
 -- "At every moment, before the first store and after each one,"
@@ -84,7 +84,7 @@ abbrev pub Carries : Head → List Task → ℕ → Type 0
 Carries h ts hz = (hclk_of h ≡ hertz hz) × (load_of ts ≤ hz)
 
 -- what is asked of a call by its kind: on the bytes `b` it answered `o`, and then `ts` are booked
-abbrev pub Asked : Call → List ℕ → Result → List Task → Type 0
+abbrev pub Asked : Call → List ℕ → Left → List Task → Type 0
 Asked (changing pb j a) b o ts =
     -- "Every change that no test refuses before its first store is answered done exactly when its plan has no DLL1 or one of the answers
     -- lent to it is ready; otherwise it is refused 36."
@@ -98,7 +98,7 @@ Asked (releasing id) b o ts = Unit {0}
 Asked (requesting f j) b o ts = Unit {0}
 
 -- a call on the bytes `b`, on which `ts` are booked
-pub record Good (b : List ℕ) (c : Call) (o : Result) (ts : List Task) : Type 0 where
+pub record Good (b : List ℕ) (c : Call) (o : Left) (ts : List Task) : Type 0 where
   pub moments : (k : ℕ) → Safe (moment b o k)
   -- "the registers of its last moment are those it returns"
   pub last : replayed (head_of b).regs (entries_of o) ≡ (head_of o.buffer).regs

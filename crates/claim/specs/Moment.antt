@@ -1,7 +1,6 @@
 -- What holds at every moment of a guarded change.
-use Rattle.std.specs.Prelude.{ℕ, ◌≡◌, Bool, true, false, cond, List, [], ◌∷◌, eqb, length}
-use Rattle.clock.specs.declared.MaybeDll.{MaybeDll}
-use Rattle.clock.specs.declared.MaybeDll.TheVariants.{Absent, Present}
+use Rattle.std.specs.Prelude.{ℕ, ◌≡◌, Bool, true, false, cond, List, [], ◌∷◌, eqb, length, Option, None, Some}
+use Rattle.clock.specs.declared.Dll.{Dll}
 use Rattle.plan.specs.declared.Plan.{Plan}
 use Rattle.head.specs.declared.Head.{Head}
 use Rattle.head.specs.Head.{with_registers}
@@ -34,9 +33,9 @@ two_ready [] = false
 two_ready (x ∷ a) = cond (eqb x 0) (two_ready a) (one_ready a)
 
 -- "answered done exactly when its plan has no DLL1 or one of the answers lent to it is ready; otherwise it is refused 36"
-abbrev pub stop_for : MaybeDll → List ℕ → ℕ
-stop_for Absent a = 0
-stop_for (Present d) a = cond (one_ready a) 0 36
+abbrev pub stop_for : Option Dll → List ℕ → ℕ
+stop_for None a = 0
+stop_for (Some d) a = cond (one_ready a) 0 36
 
 -- a wake has two waits
 abbrev pub stop_for_wake : List ℕ → ℕ
@@ -47,6 +46,6 @@ abbrev pub taken_of : List ℕ → Poll → ℕ
 taken_of a (ready_after n) = n
 taken_of a never_ready = length a
 
-abbrev pub taken_for : MaybeDll → List ℕ → ℕ
-taken_for Absent a = 0
-taken_for (Present d) a = taken_of a (poll a)
+abbrev pub taken_for : Option Dll → List ℕ → ℕ
+taken_for None a = 0
+taken_for (Some d) a = taken_of a (poll a)

@@ -2,8 +2,7 @@
 use Rattle.std.specs.Prelude.{ℕ, ◌≡◌, List, [], ◌∷◌}
 use Rattle.head.specs.Head.{booked}
 use Rattle.head.specs.Record.{head_of}
-use Rattle.call.specs.declared.Answer.{Answer}
-use Rattle.call.specs.Call.{Answers}
+use Rattle.call.specs.Call.{Answer, Answers}
 use Rattle.claim.specs.Claim.{Call, perform, FitHead, Claim}
 
 -- what the code answered to each call and left in that call's journal, and the bytes that are left in the end, are what the calls perform

@@ -39,22 +39,17 @@ pub struct Dll {
     pub half: bool,
 }
 
-// A DLL that a plan has or has not.
-#[derive(Clone, Copy)]
-pub enum MaybeDll {
-    Absent,
-    Present(Dll),
-}
-
 impl Dll {
     pub fn freq_hz(self) -> Hertz
         requires { self.stage ≤ 15 }
         ensures { result.0 ≡ dll_hz self.stage self.half }
     {
-        let stage = self.stage;
-        let half = self.half;
-        let base = 24_000_000 * (stage as u32 + 1);
-        if half { Hertz(base / 2) } else { Hertz(base) }
+        let base = 24_000_000 * (u32::from(self.stage) + 1);
+        if self.half {
+            Hertz(base / 2)
+        } else {
+            Hertz(base)
+        }
     }
 }
 
@@ -62,20 +57,15 @@ impl Dll {
 pub fn divide(f: Hertz, divider: u8) -> Hertz
     ensures { result.0 ≡ divided f.0 divider }
 {
-    let hertz = f.0;
     if divider == 0 {
-        return Hertz(hertz);
+        return f;
     }
-    Hertz(hertz / (divider as u32))
+    Hertz(f.0 / u32::from(divider))
 }
 
 // A clock behind a prescaler, which divides by a power of two.
 pub fn prescale(f: Hertz, exponent: u8) -> Hertz
     ensures { result.0 ≡ shifted f.0 exponent }
 {
-    let hertz = f.0;
-    if 31 < exponent {
-        return Hertz(0);
-    }
-    Hertz(hertz >> (exponent as u32))
+    Hertz(f.0.checked_shr(u32::from(exponent)).unwrap_or(0))
 }

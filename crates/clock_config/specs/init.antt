@@ -4,12 +4,12 @@ use Rattle.plan.specs.bytes.{plan_of}
 use Rattle.head.specs.Record.{head_of}
 use Rattle.readings.specs.Clocks.{clocks_of}
 use Rattle.journal.specs.Run.{begin}
-use Rattle.call.specs.Call.{Result}
+use Rattle.call.specs.Call.{Left}
 use Rattle.call.specs.with_plan.{plan_call, head_after}
 use Rattle.clock_init.specs.Init.{init, init_warning}
 
 -- `init`
-unfoldable pub init_call : List ℕ → List ℕ → List ℕ → List ℕ → Result
+unfoldable pub init_call : List ℕ → List ℕ → List ℕ → List ℕ → Left
 init_call pb b j a = plan_call (init (plan_of pb) a) (init_warning (plan_of pb) a (begin (head_of b))) pb b j a
 
 -- "`init` gives the `Clocks` read last, all none on a refusal."

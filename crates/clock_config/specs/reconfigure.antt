@@ -2,13 +2,13 @@
 use Rattle.std.specs.Prelude.{ℕ, cond, List, eqb}
 use Rattle.plan.specs.bytes.{plan_of}
 use Rattle.readings.specs.Clocks.{clocks_of}
-use Rattle.call.specs.Call.{Result}
+use Rattle.call.specs.Call.{Left}
 use Rattle.call.specs.with_plan.{plan_call, head_after}
 use Rattle.core_clock.specs.switch.{to_plan}
 use Rattle.call.specs.clocks.{with_audio_of}
 
 -- `reconfigure_sysclk`
-unfoldable pub reconfigure_call : List ℕ → List ℕ → List ℕ → List ℕ → Result
+unfoldable pub reconfigure_call : List ℕ → List ℕ → List ℕ → List ℕ → Left
 reconfigure_call pb b j a = plan_call (to_plan (plan_of pb) a) 0 pb b j a
 
 -- it "takes the former `Clocks` beside the head and gives the new one with the audio PLL pair unaltered, or the former on a refusal"

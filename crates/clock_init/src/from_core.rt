@@ -9,20 +9,13 @@ use journal::Machine;
 use plan::Plan;
 use plan_clocks::Target;
 
-pub fn init_clock(
-    m: Machine,
-    journal: &mut [u32],
-    answers: &[u16],
-    p: Plan,
-    target: Target,
-) -> Machine
-    requires lent { Lent 30 m journal.old (taking answers.now) }
+#[tactic(auto, unfolding(plan_clocks::specs::Clocks::target_of, crate::specs::from_core::init_clock))]
+pub fn init_clock(m: &mut Machine, journal: &mut [u32], answers: &[u16], p: Plan, target: Target)
+    requires lent { Lent 30 m.old journal.old (taking answers.now) }
     requires p_value { (legal p ≡ true) × ((target ≡ target_of p) × (target.usb_div ≤ 7)) }
-    ensures { Does 30 (init_clock p answers.now) m result journal.old journal.new (taking answers.now) }
+    ensures { Does 30 (init_clock p answers.now) m.old m.new journal.old journal.new (taking answers.now) }
 {
-    let hclk = target.hclk;
-    let usb_div = target.usb_div;
-    let m = core_clock::dividers::apply_dividers(m, journal, p);
-    let m = core_clock::switch::config_hcpu_dvfs(m, journal, answers, p, hclk);
-    init_rest::init_rest(m, journal, answers, p, usb_div)
+    core_clock::dividers::apply_dividers(m, journal, p);
+    core_clock::switch::config_hcpu_dvfs(m, journal, answers, p, target.hclk);
+    init_rest::init_rest(m, journal, answers, p, target.usb_div);
 }

@@ -7,13 +7,9 @@ use call::Answer;
 pub fn set_lpsys_hdiv(buffer: &mut [u8], hdiv: u8, journal: &mut [u32]) -> Answer
     ensures { Answers (set_lpsys_hdiv hdiv buffer.old journal.old) result buffer.new journal.new }
 {
-    let admitted = call::admit(buffer, journal);
-    if admitted.refusal != 0 {
-        return Answer::refused(admitted.refusal);
-    }
-    let head = admitted.head;
-    let m = lpsys_request::hdiv::set_hdiv(call::start(head), journal, hdiv);
-    call::finish(m, 0, buffer)
+    let mut m = call::admit(buffer, journal)?;
+    lpsys_request::hdiv::set_hdiv(&mut m, journal, hdiv);
+    call::finish(&m, 0, buffer)
 }
 
 pub fn set_lpsys_div(
@@ -25,9 +21,9 @@ pub fn set_lpsys_div(
 ) -> Answer
     ensures { Answers (set_lpsys_div hdiv pdiv1 pdiv2 buffer.old journal.old) result buffer.new journal.new }
 {
-    let refusal = lpsys_tests::div_refusal(pdiv1, pdiv2);
+    let test = lpsys_tests::test_div(pdiv1, pdiv2);
     let word = lpsys_tests::words::div_word(hdiv, pdiv1, pdiv2);
-    call::store::store_once(buffer, refusal, register::LPSYS_CFGR, word, journal)
+    call::store::store_once(buffer, test, register::LPSYS_CFGR, word, journal)
 }
 
 pub fn config_lpsys_mac_clock(
@@ -39,5 +35,5 @@ pub fn config_lpsys_mac_clock(
     ensures { Answers (config_mac macdiv macfreq buffer.old journal.old) result buffer.new journal.new }
 {
     let word = lpsys_tests::words::mac_word(macdiv, macfreq);
-    call::store::store_once(buffer, 0, register::LPSYS_MAC, word, journal)
+    call::store::store_once(buffer, Ok(()), register::LPSYS_MAC, word, journal)
 }

@@ -4,8 +4,7 @@ use mathlib.Core.Bool.{Bool, true, false, cond}
 use native.Mathlib.Nat.{le_trans}
 use lib.Dec.{eqb, lit≤}
 use Rattle.time.specs.declared.Hertz.{Hertz}
-use Rattle.time.specs.declared.Reading.{Reading}
-use Rattle.time.specs.declared.Reading.TheVariants.{At, Unreadable}
+use Rattle.std.specs.Prelude.{Option, Some, None}
 use Rattle.clock.proofs.Laws.{dll_most, divided_most}
 use Rattle.head.specs.declared.Head.{Head}
 use Rattle.register.specs.Word.{byte_a, byte_b, byte_c}
@@ -14,15 +13,15 @@ use Rattle.clock_read.specs.Hpsys.{reg, ready_reading, dll_reading, divided_read
 use Rattle.clock_read.proofs.Codes.{dll1_stage}
 
 -- a reading of at most `n` Hz, or none
-pub data Most : ℕ → Reading → Type 0 where
-  reads : {n : ℕ} {f : Hertz} → f.0 ≤ n → Most n (At f)
-  none : {n : ℕ} → Most n Unreadable
+pub data Most : ℕ → Option Hertz → Type 0 where
+  reads : {n : ℕ} {f : Hertz} → f.0 ≤ n → Most n (Some f)
+  none : {n : ℕ} → Most n None
 
 -- what it says of a frequency that was read
-pub most_at : {n : ℕ} {f : Hertz} → Most n (At f) → f.0 ≤ n
+pub most_at : {n : ℕ} {f : Hertz} → Most n (Some f) → f.0 ≤ n
 most_at (reads p) = p
 
-by_cond : {n : ℕ} (t : Bool) {x y : Reading} → Most n x → Most n y → Most n (cond t x y)
+by_cond : {n : ℕ} (t : Bool) {x y : Option Hertz} → Most n x → Most n y → Most n (cond t x y)
 by_cond true p q = p
 by_cond false p q = q
 
@@ -41,9 +40,9 @@ most_sys h ok =
     (by_cond (eqb (reg h 1) 1) (most_ready h.hxt48_ready)
     (by_cond (eqb (reg h 1) 3) (most_dll (reg h 3) (dll1_stage h ok)) none))
 
-most_divided : (n : ℕ) (r : Reading) (d : ℕ) → Most n r → Most n (divided_reading r d)
-most_divided n (At f) d (reads p) = reads (le_trans (divided_most f.0 d) p)
-most_divided n Unreadable d none = none
+most_divided : (n : ℕ) (r : Option Hertz) (d : ℕ) → Most n r → Most n (divided_reading r d)
+most_divided n (Some f) d (reads p) = reads (le_trans (divided_most f.0 d) p)
+most_divided n None d none = none
 
 pub most_hclk : (h : Head) → Encodable h → Most 384000000 (hclk_of h)
 unfolding hclk_of

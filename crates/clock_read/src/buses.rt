@@ -13,55 +13,58 @@ ghost use Rattle.clock_read.specs.buses.{
 };
 
 use head::Head;
-use time::Reading;
+use time::Hertz;
 
-pub fn prescale(f: Reading, exponent: u8) -> Reading
+pub fn prescale(f: Option<Hertz>, exponent: u8) -> Option<Hertz>
     ensures { result ≡ shifted_reading f exponent }
 {
-    let Reading::At(f) = f else {
-        return Reading::Unreadable;
-    };
-    Reading::At(clock::prescale(f, exponent))
+    f.map(|f| clock::prescale(f, exponent))
 }
 
-pub fn get_pclk_freq(h: Head) -> Reading
-    requires { Encodable h }
-    ensures { result ≡ pclk_of h }
+#[tactic(auto, unfolding(crate::specs::buses::pclk_of))]
+pub fn get_pclk_freq(h: &Head) -> Option<Hertz>
+    requires { Encodable h.now }
+    ensures { result ≡ pclk_of h.now }
 {
     let pdiv1 = register::b(h.regs[register::HPSYS_CFGR]) as u8;
     prescale(crate::get_hclk_freq(h), pdiv1)
 }
 
-pub fn get_pclk2_freq(h: Head) -> Reading
-    requires { Encodable h }
-    ensures { result ≡ pclk2_of h }
+#[tactic(auto, unfolding(crate::specs::buses::pclk2_of))]
+pub fn get_pclk2_freq(h: &Head) -> Option<Hertz>
+    requires { Encodable h.now }
+    ensures { result ≡ pclk2_of h.now }
 {
     let pdiv2 = register::c(h.regs[register::HPSYS_CFGR]) as u8;
     prescale(crate::get_hclk_freq(h), pdiv2)
 }
 
-pub fn get_lpsys_pclk1_freq(h: Head) -> Reading
-    ensures { result ≡ lpsys_pclk1_of h }
+#[tactic(auto, unfolding(crate::specs::buses::lpsys_pclk1_of))]
+pub fn get_lpsys_pclk1_freq(h: &Head) -> Option<Hertz>
+    ensures { result ≡ lpsys_pclk1_of h.now }
 {
     let pdiv1 = register::b(h.regs[register::LPSYS_CFGR]) as u8;
     prescale(crate::lpsys::get_lpsys_hclk_freq(h), pdiv1)
 }
 
-pub fn get_lpsys_pclk2_freq(h: Head) -> Reading
-    ensures { result ≡ lpsys_pclk2_of h }
+#[tactic(auto, unfolding(crate::specs::buses::lpsys_pclk2_of))]
+pub fn get_lpsys_pclk2_freq(h: &Head) -> Option<Hertz>
+    ensures { result ≡ lpsys_pclk2_of h.now }
 {
     let pdiv2 = register::c(h.regs[register::LPSYS_CFGR]) as u8;
     prescale(crate::lpsys::get_lpsys_hclk_freq(h), pdiv2)
 }
 
-pub fn get_lpsys_clk_peri_freq(h: Head) -> Reading
-    ensures { result ≡ lpsys_peri_of h }
+#[tactic(auto, unfolding(crate::specs::buses::lpsys_peri_of))]
+pub fn get_lpsys_clk_peri_freq(h: &Head) -> Option<Hertz>
+    ensures { result ≡ lpsys_peri_of h.now }
 {
     crate::lpsys::source_freq(h.regs[register::LPSYS_PERI], h)
 }
 
-pub fn get_lpsys_mac_clk_freq(h: Head) -> Reading
-    ensures { result ≡ lpsys_mac_of h }
+#[tactic(auto, unfolding(crate::specs::buses::lpsys_mac_of))]
+pub fn get_lpsys_mac_clk_freq(h: &Head) -> Option<Hertz>
+    ensures { result ≡ lpsys_mac_of h.now }
 {
     let macdiv = register::b(h.regs[register::LPSYS_MAC]) as u8;
     crate::divide(crate::lpsys::get_lpsys_hclk_freq(h), macdiv)

@@ -12,63 +12,54 @@ ghost use Rattle.clock_read.specs.Hpsys.{reg, ready_reading, dll_reading, divide
 
 use clock::Dll;
 use head::Head;
-use time::Reading;
+use time::Hertz;
 
 // HXT48 or HRC48 by its ready flag.
-pub fn ready_freq(ready: bool) -> Reading
+pub fn ready_freq(ready: bool) -> Option<Hertz>
     ensures { result ≡ ready_reading ready }
 {
-    if ready {
-        Reading::At(clock::CLK_HXT48_FREQ)
-    } else {
-        Reading::Unreadable
-    }
+    ready.then_some(clock::CLK_HXT48_FREQ)
 }
 
 // A DLL by its register.
-pub fn dll_freq(word: u32) -> Reading
+#[tactic(auto, unfolding(crate::specs::Hpsys::dll_reading))]
+pub fn dll_freq(word: u32) -> Option<Hertz>
     requires { byte_c word ≤ 15 }
     ensures { result ≡ dll_reading word }
 {
     if register::a(word) != 1 {
-        return Reading::Unreadable;
+        return None;
     }
     let dll = Dll {
         stage: register::c(word) as u8,
         half: register::b(word) == 1,
     };
-    Reading::At(dll.freq_hz())
+    Some(dll.freq_hz())
 }
 
-pub fn divide(f: Reading, divider: u8) -> Reading
+pub fn divide(f: Option<Hertz>, divider: u8) -> Option<Hertz>
     ensures { result ≡ divided_reading f divider }
 {
-    let Reading::At(f) = f else {
-        return Reading::Unreadable;
-    };
-    Reading::At(clock::divide(f, divider))
+    f.map(|f| clock::divide(f, divider))
 }
 
-pub fn get_clk_sys_freq(h: Head) -> Reading
-    requires { Encodable h }
-    ensures { result ≡ sys_of h }
+#[tactic(auto, using(crate::proofs::Codes::dll1_stage), unfolding(crate::specs::Hpsys::sys_of))]
+pub fn get_clk_sys_freq(h: &Head) -> Option<Hertz>
+    requires { Encodable h.now }
+    ensures { result ≡ sys_of h.now }
 {
-    let select = h.regs[register::SYSCLK];
-    if select == 0 {
-        return ready_freq(h.hrc48_ready);
+    match h.regs[register::SYSCLK] {
+        0 => ready_freq(h.hrc48_ready),
+        1 => ready_freq(h.hxt48_ready),
+        3 => dll_freq(h.regs[register::DLL1]),
+        _ => None,
     }
-    if select == 1 {
-        return ready_freq(h.hxt48_ready);
-    }
-    if select == 3 {
-        return dll_freq(h.regs[register::DLL1]);
-    }
-    Reading::Unreadable
 }
 
-pub fn get_hclk_freq(h: Head) -> Reading
-    requires { Encodable h }
-    ensures { result ≡ hclk_of h }
+#[tactic(auto, unfolding(crate::specs::Hpsys::hclk_of))]
+pub fn get_hclk_freq(h: &Head) -> Option<Hertz>
+    requires { Encodable h.now }
+    ensures { result ≡ hclk_of h.now }
 {
     let hdiv = register::a(h.regs[register::HPSYS_CFGR]) as u8;
     divide(get_clk_sys_freq(h), hdiv)

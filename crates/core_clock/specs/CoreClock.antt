@@ -1,7 +1,6 @@
 -- The steps that set the core clock as a plan has it: rcc/clock_config.rs.
-use Rattle.std.specs.Prelude.{ℕ, cond, List, eqb}
-use Rattle.clock.specs.declared.MaybeDll.{MaybeDll}
-use Rattle.clock.specs.declared.MaybeDll.TheVariants.{Absent, Present}
+use Rattle.std.specs.Prelude.{ℕ, cond, List, eqb, Option, None, Some}
+use Rattle.clock.specs.declared.Dll.{Dll}
 use Rattle.plan.specs.declared.Plan.{Plan}
 use Rattle.record.specs.Bytes.{bit}
 use Rattle.clock_read.specs.Hpsys.{reg}
@@ -15,9 +14,9 @@ unfoldable pub switch_away : Effect
 switch_away r = cond (eqb (reg r.head SYSCLK) 3) (store SYSCLK (bit r.head.hxt48_ready)) idle r
 
 -- `configure_dll1` where the plan has DLL1
-abbrev pub planned_dll1 : MaybeDll → List ℕ → Effect
-planned_dll1 Absent a = idle
-planned_dll1 (Present d) a = configure_dll 3 d a
+abbrev pub planned_dll1 : Option Dll → List ℕ → Effect
+planned_dll1 None a = idle
+planned_dll1 (Some d) a = configure_dll 3 d a
 
 -- `apply_dividers_and_sysclk`
 unfoldable pub dividers_and_sysclk : Plan → Effect

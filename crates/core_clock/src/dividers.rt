@@ -10,21 +10,19 @@ ghost use Rattle.register.specs.Numbers.{HPSYS_CFGR};
 use journal::Machine;
 use plan::Plan;
 
+#[tactic(auto, using(crate::proofs::dividers::Fits::dividers_fit))]
 fn dividers_word(p: Plan) -> u32
     requires { legal p ≡ true }
     ensures { (result ≡ word_of p.hdiv p.pdiv1 p.pdiv2) × (fits_register HPSYS_CFGR result ≡ true) }
 {
-    let hdiv = p.hdiv;
-    let pdiv1 = p.pdiv1;
-    let pdiv2 = p.pdiv2;
-    register::word(hdiv as u32, pdiv1 as u32, pdiv2 as u32)
+    register::word(u32::from(p.hdiv), u32::from(p.pdiv1), u32::from(p.pdiv2))
 }
 
-pub fn apply_dividers(m: Machine, journal: &mut [u32], p: Plan) -> Machine
-    requires lent { Lent 1 m journal.old none }
+#[tactic(auto, unfolding(crate::specs::dividers::dividers))]
+pub fn apply_dividers(m: &mut Machine, journal: &mut [u32], p: Plan)
+    requires lent { Lent 1 m.old journal.old none }
     requires p_value { legal p ≡ true }
-    ensures { Does 1 (dividers p) m result journal.old journal.new none }
+    ensures { Does 1 (dividers p) m.old m.new journal.old journal.new none }
 {
-    let word = dividers_word(p);
-    m.store(journal, register::HPSYS_CFGR, word)
+    m.store(journal, register::HPSYS_CFGR, dividers_word(p));
 }

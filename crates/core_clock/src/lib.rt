@@ -10,44 +10,43 @@ ghost use Rattle.plan.specs.Plan.{legal};
 ghost use Rattle.journal.specs.Machine.{Lent, Does, none, taking};
 ghost use Rattle.core_clock.specs.CoreClock.{switch_away, planned_dll1, dividers_and_sysclk};
 
-use clock::MaybeDll;
+use clock::Dll;
 use journal::Machine;
 use plan::Plan;
 
 const DLL1: u32 = 3;
 
-pub fn switch_away_from_dll1(m: Machine, journal: &mut [u32]) -> Machine
-    requires { Lent 1 m journal.old none }
-    ensures { Does 1 switch_away m result journal.old journal.new none }
+#[tactic(auto, using(crate::proofs::dividers::Fits::select_fits), unfolding(crate::specs::CoreClock::switch_away))]
+pub fn switch_away_from_dll1(m: &mut Machine, journal: &mut [u32])
+    requires { Lent 1 m.old journal.old none }
+    ensures { Does 1 switch_away m.old m.new journal.old journal.new none }
 {
-    let head = m.head;
-    let select = head.regs[register::SYSCLK];
-    if select != DLL1 {
-        return m;
+    if m.head.regs[register::SYSCLK] != DLL1 {
+        return;
     }
-    if head.hxt48_ready {
-        return m.store(journal, register::SYSCLK, 1);
+    if m.head.hxt48_ready {
+        m.store(journal, register::SYSCLK, 1);
+    } else {
+        m.store(journal, register::SYSCLK, 0);
     }
-    m.store(journal, register::SYSCLK, 0)
 }
 
-pub fn configure_dll1(m: Machine, journal: &mut [u32], answers: &[u16], dll1: MaybeDll) -> Machine
-    requires lent { Lent 6 m journal.old (taking answers.now) }
+pub fn configure_dll1(m: &mut Machine, journal: &mut [u32], answers: &[u16], dll1: Option<Dll>)
+    requires lent { Lent 6 m.old journal.old (taking answers.now) }
     requires dll1_bound { stage_of dll1 ≤ 15 }
-    ensures { Does 6 (planned_dll1 dll1 answers.now) m result journal.old journal.new (taking answers.now) }
+    ensures { Does 6 (planned_dll1 dll1 answers.now) m.old m.new journal.old journal.new (taking answers.now) }
 {
-    let MaybeDll::Present(d) = dll1 else {
-        return m;
-    };
-    dll::configure_dll(m, journal, answers, 3, d)
+    if let Some(d) = dll1 {
+        dll::configure_dll(m, journal, answers, register::DLL1, d);
+    }
 }
 
-pub fn apply_dividers_and_sysclk(m: Machine, journal: &mut [u32], p: Plan) -> Machine
-    requires lent { Lent 2 m journal.old none }
+#[tactic(auto, using(crate::proofs::dividers::Fits::sys_fits), unfolding(crate::specs::CoreClock::dividers_and_sysclk))]
+pub fn apply_dividers_and_sysclk(m: &mut Machine, journal: &mut [u32], p: Plan)
+    requires lent { Lent 2 m.old journal.old none }
     requires p_value { legal p ≡ true }
-    ensures { Does 2 (dividers_and_sysclk p) m result journal.old journal.new none }
+    ensures { Does 2 (dividers_and_sysclk p) m.old m.new journal.old journal.new none }
 {
-    let sys = p.sys;
-    let m = dividers::apply_dividers(m, journal, p);
-    m.store(journal, register::SYSCLK, sys as u32)
+    dividers::apply_dividers(m, journal, p);
+    m.store(journal, register::SYSCLK, u32::from(p.sys));
 }

@@ -1,7 +1,7 @@
 -- Digits read one after the other, the number cut at the largest each time, spell the request.
 use Prim.Native.Nat.{ℕ, suc, ◌+◌, ◌-◌, ◌*◌, ◌<◌, ◌≤◌, min}
 use mathlib.Core.Path.{◌≡◌, refl, ap}
-use mathlib.Core.Bool.{Bool, true, false, cond, ◌&&◌}
+use mathlib.Core.Bool.{Bool, true, false, cond}
 use mathlib.Core.List.{List, [], ◌∷◌}
 use native.Mathlib.Omega.{arith}
 use native.Mathlib.Numerals.{add-one}
@@ -9,7 +9,8 @@ use lib.Dec.{leb}
 use lib.ListN.{length, get_or, drop}
 use lib.Seq.{drop-cons, drop-length}
 use borrow.Author.Tests.{leb-true, leb-false}
-use Rattle.digits.specs.Decimal.{most, is_digit, all_digits, spelled, longer}
+use Rattle.std.specs.Prelude.{None, Some}
+use Rattle.digits.specs.Decimal.{most, is_digit, all_digits, spelled, longer, request_of, number_in}
 
 -- the request of a text that goes on after the digits of `n`
 abbrev pub read_on : ℕ → List ℕ → ℕ
@@ -43,17 +44,34 @@ pub read_step : (s : List ℕ) (i n : ℕ) → i < length s → is_digit (get_or
     read_on (longer n (get_or s i 0)) (drop (i + 1) s) ≡ read_on n (drop i s)
 read_step s i n h e = rw (add-one, drop-cons s i 0 h) (read_digit n (get_or s i 0) (drop (suc i) s) e)
 
-pub read_other : (s : List ℕ) (i n : ℕ) → i < length s → is_digit (get_or s i 0) ≡ false → 0 ≡ read_on n (drop i s)
-unfolding all_digits
-read_other s i n h e = rw (drop-cons s i 0 h, e)
-
 pub read_end : (s : List ℕ) (i n : ℕ) → i ≡ length s → n ≤ most → n ≡ read_on n (drop i s)
 unfolding all_digits spelled
 read_end s i n e h = rw (e, drop-length s) (omega arith)
 
-first_true : (t u : Bool) → t && u ≡ true → t ≡ true
-first_true true u e = refl
-first_true false u e = e
+-- a text has digits alone where the rest has, after digits; another byte ends that
+pub digits_step : (s : List ℕ) (i : ℕ) → i < length s → is_digit (get_or s i 0) ≡ true → all_digits (drop (i + 1) s) ≡ all_digits (drop i s)
+unfolding all_digits
+digits_step s i h e = rw (add-one, drop-cons s i 0 h, e)
 
-pub digit_least : (b : ℕ) → is_digit b ≡ true → 48 ≤ b
-digit_least b e = leb-true 48 b (first_true (leb 48 b) (leb b 57) e)
+pub digits_other : (s : List ℕ) (i : ℕ) → i < length s → is_digit (get_or s i 0) ≡ false → all_digits (drop i s) ≡ false
+unfolding all_digits
+digits_other s i h e = rw (drop-cons s i 0 h, e)
+
+pub digits_end : (s : List ℕ) (i : ℕ) → i ≡ length s → all_digits (drop i s) ≡ true
+unfolding all_digits
+digits_end s i e = rw (e, drop-length s)
+
+pub number_none : (s : List ℕ) → 0 < length s → all_digits s ≡ false → None ≡ number_in s
+unfolding number_in
+number_none [] h e = absurd (omega arith)
+number_none (b ∷ s) h e = rw e
+
+pub number_empty : (s : List ℕ) → length s ≡ 0 → None ≡ number_in s
+unfolding number_in
+number_empty [] e = refl
+number_empty (b ∷ s) e = absurd (omega arith)
+
+pub number_some : (s : List ℕ) (n : ℕ) → 0 < length s → all_digits s ≡ true → n ≡ request_of s → Some n ≡ number_in s
+unfolding number_in
+number_some [] n h e k = absurd (omega arith)
+number_some (b ∷ s) n h e k = rw (e, k)

@@ -1,5 +1,5 @@
 -- "a request in decimal (otherwise 0)".
-use Rattle.std.specs.Prelude.{ℕ, ◌+◌, ◌*◌, ◌-◌, min, Bool, true, cond, ◌&&◌, List, [], ◌∷◌, leb}
+use Rattle.std.specs.Prelude.{ℕ, ◌+◌, ◌*◌, ◌-◌, min, Bool, true, cond, ◌&&◌, List, [], ◌∷◌, leb, Option, None, Some}
 
 -- the largest request that 32 bits hold
 abbrev pub most : ℕ
@@ -29,3 +29,8 @@ request_of s = min (spelled_by s) most
 -- the number `n` with the digit `b` after it, or the largest where that does not fit
 abbrev pub longer : ℕ → ℕ → ℕ
 longer n b = min (n * 10 + (b - 48)) most
+
+-- the request that a text spells, and none where it is empty or has another byte: 0 stands for that in `request_of`
+unfoldable pub number_in : List ℕ → Option ℕ
+number_in [] = None
+number_in (b ∷ s) = cond (all_digits (b ∷ s)) (Some (request_of (b ∷ s))) None

@@ -1,6 +1,5 @@
-// Numbers as text: a request in decimal, and a journal entry's value in hexadecimal.
+// Numbers as text: a request in decimal, and bytes and words in hexadecimal.
 #![tactic(auto)]
 
-pub mod hex;
 pub mod hexadecimal;
 pub mod request;

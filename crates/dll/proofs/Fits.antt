@@ -1,10 +1,11 @@
 -- What is stored in the registers of the DLLs and in register 11 fits them.
 use Prim.Native.Nat.{ℕ, zero, suc, ◌≤◌}
-use mathlib.Core.Path.{◌≡◌}
-use mathlib.Core.Bool.{true}
+use mathlib.Core.Path.{◌≡◌, refl}
+use mathlib.Core.Bool.{Bool, true, false}
 use native.Mathlib.Omega.{arith}
 use borrow.Author.Tests.{le-leb}
-use Rattle.record.specs.Bytes.{is_within}
+use mir.Val.{bool_byte}
+use Rattle.record.specs.Bytes.{bit, is_within}
 use Rattle.head.specs.declared.Head.{Head}
 use Rattle.register.specs.Word.{word_of, word_bytes, byte_b, byte_c}
 use Rattle.register.specs.Codes.{largest, fits_register}
@@ -12,6 +13,15 @@ use Rattle.head.specs.Encodable.{Encodable}
 use Rattle.register.proofs.Fits.{word_fits}
 use Rattle.clock_read.specs.Hpsys.{reg}
 use Rattle.clock_read.proofs.Codes.{byte_most}
+
+-- a flag as a number
+pub flag_is : (b : Bool) → bool_byte b ≡ bit b
+flag_is true = refl
+flag_is false = refl
+
+pub flag_most : (b : Bool) → bit b ≤ 1
+flag_most true = omega arith
+flag_most false = omega arith
 
 pub hpbg_fits : (h : Head) → Encodable h → fits_register 11 (word_of 0 1 (byte_c (reg h 11))) ≡ true
 unfolding is_within largest word_bytes

@@ -9,10 +9,10 @@ ghost use Rattle.clock_read.specs.Hpsys.{reg};
 use clock::Dll;
 use head::Head;
 
-pub fn off_word(h: Head, number: usize) -> u32
-    requires encodable { Encodable h }
+pub fn off_word(h: &Head, number: usize) -> u32
+    requires encodable { Encodable h.now }
     requires le_number { (3 ≤ number) × (number ≤ 4) }
-    ensures { (result ≡ word_of 0 (byte_b (reg h number)) (byte_c (reg h number))) × (fits_register number result ≡ true) }
+    ensures { (result ≡ word_of 0 (byte_b (reg h.now number)) (byte_c (reg h.now number))) × (fits_register number result ≡ true) }
 {
     let old = h.regs[number];
     register::word(0, register::b(old), register::c(old))
@@ -23,10 +23,5 @@ pub fn on_word(d: Dll, number: usize) -> u32
     requires stage_bound { d.stage ≤ 15 }
     ensures { (result ≡ word_of 1 (bit d.half) d.stage) × (fits_register number result ≡ true) }
 {
-    let stage = d.stage;
-    let half = d.half;
-    if half {
-        return register::word(1, 1, stage as u32);
-    }
-    register::word(1, 0, stage as u32)
+    register::word(1, u32::from(d.half), u32::from(d.stage))
 }

@@ -1,19 +1,17 @@
 -- Supply modes and rows of HPSYS, pmu/dvfs.rs.
-use Rattle.std.specs.Prelude.{ℕ, cond, ℤ, pos, negsuc, leb}
+use Rattle.std.specs.Prelude.{ℕ, cond, ℤ, pos, negsuc, leb, Option, Some, None}
 use Rattle.dvfs.specs.declared.hpsys.HpsysDvfsConfig.{HpsysDvfsConfig}
 use Rattle.dvfs.specs.declared.hpsys.HpsysDvfsMode.{HpsysDvfsMode}
 use Rattle.dvfs.specs.declared.hpsys.HpsysDvfsMode.TheVariants.{D0, D1, S0, S1}
-use Rattle.dvfs.specs.declared.hpsys.HpsysModeFound.{HpsysModeFound}
-use Rattle.dvfs.specs.declared.hpsys.HpsysModeFound.TheVariants.{Mode, OutOfRange}
 
 -- `HpsysDvfsMode::from_frequency`, on truncated MHz: "Modes: 24 D0, 25 and 48 D1, 49 and 144 S0, 145 and 240 S1, 241 none."
-unfoldable pub mode_of : ℕ → HpsysModeFound
+unfoldable pub mode_of : ℕ → Option HpsysDvfsMode
 mode_of mhz =
-    cond (leb mhz 24) (Mode D0)
-    (cond (leb mhz 48) (Mode D1)
-    (cond (leb mhz 144) (Mode S0)
-    (cond (leb mhz 240) (Mode S1)
-    OutOfRange)))
+    cond (leb mhz 24) (Some D0)
+    (cond (leb mhz 48) (Some D1)
+    (cond (leb mhz 144) (Some S0)
+    (cond (leb mhz 240) (Some S1)
+    None)))
 
 abbrev pub mode_number : HpsysDvfsMode → ℕ
 mode_number D0 = 0

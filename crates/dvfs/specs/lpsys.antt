@@ -1,14 +1,12 @@
 -- Supply modes and rows of LPSYS, pmu/dvfs.rs.
-use Rattle.std.specs.Prelude.{ℕ, cond, leb}
+use Rattle.std.specs.Prelude.{ℕ, cond, leb, Option, Some, None}
 use Rattle.dvfs.specs.declared.lpsys.LpsysDvfsConfig.{LpsysDvfsConfig}
 use Rattle.dvfs.specs.declared.lpsys.LpsysDvfsMode.{LpsysDvfsMode}
 use Rattle.dvfs.specs.declared.lpsys.LpsysDvfsMode.TheVariants.{D, S}
-use Rattle.dvfs.specs.declared.lpsys.LpsysModeFound.{LpsysModeFound}
-use Rattle.dvfs.specs.declared.lpsys.LpsysModeFound.TheVariants.{Mode, OutOfRange}
 
 -- `LpsysDvfsMode::from_frequency`, on truncated MHz
-unfoldable pub lpsys_mode_of : ℕ → LpsysModeFound
-lpsys_mode_of mhz = cond (leb mhz 24) (Mode D) (cond (leb mhz 48) (Mode S) OutOfRange)
+unfoldable pub lpsys_mode_of : ℕ → Option LpsysDvfsMode
+lpsys_mode_of mhz = cond (leb mhz 24) (Some D) (cond (leb mhz 48) (Some S) None)
 
 abbrev pub lpsys_number_of : LpsysDvfsMode → ℕ
 lpsys_number_of D = 0

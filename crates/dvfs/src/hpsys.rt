@@ -23,19 +23,13 @@ pub struct HpsysDvfsConfig {
     pub ulpmcr: u32,
 }
 
-#[derive(Clone, Copy)]
+// The modes in the order of what they carry.
+#[derive(Clone, Copy, PartialEq, Eq, PartialOrd, Ord)]
 pub enum HpsysDvfsMode {
     D0,
     D1,
     S0,
     S1,
-}
-
-// The mode of a frequency, none above 240 MHz.
-#[derive(Clone, Copy)]
-pub enum HpsysModeFound {
-    Mode(HpsysDvfsMode),
-    OutOfRange,
 }
 
 const HPSYS_DVFS_CONFIG: [HpsysDvfsConfig; 4] = [
@@ -66,34 +60,28 @@ const HPSYS_DVFS_CONFIG: [HpsysDvfsConfig; 4] = [
 ];
 
 // Supply 0 is S, 1 is D.
-pub fn is_hpsys_dvfs_mode_s(h: Head) -> bool
-    ensures { result ≡ eqb (get_or h.regs 12 0) 0 }
+pub fn is_hpsys_dvfs_mode_s(h: &Head) -> bool
+    ensures { result ≡ eqb (get_or h.now.regs 12 0) 0 }
 {
-    let supply = h.regs[register::HPSYS_SUPPLY];
-    supply == 0
+    h.regs[register::HPSYS_SUPPLY] == 0
 }
 
 impl HpsysDvfsMode {
-    pub fn from_frequency(f: Megahertz) -> HpsysModeFound
+    // None above 240 MHz.
+    #[tactic(auto, unfolding(crate::specs::Hpsys::mode_of))]
+    pub fn from_frequency(f: Megahertz) -> Option<HpsysDvfsMode>
         ensures { result ≡ mode_of f.0 }
     {
-        let mhz = f.0;
-        if mhz <= HPSYS_DVFS_MODE_D0_LIMIT {
-            return HpsysModeFound::Mode(HpsysDvfsMode::D0);
+        match f.0 {
+            ..=HPSYS_DVFS_MODE_D0_LIMIT => Some(HpsysDvfsMode::D0),
+            ..=HPSYS_DVFS_MODE_D1_LIMIT => Some(HpsysDvfsMode::D1),
+            ..=HPSYS_DVFS_MODE_S0_LIMIT => Some(HpsysDvfsMode::S0),
+            ..=HPSYS_DVFS_MODE_S1_LIMIT => Some(HpsysDvfsMode::S1),
+            _ => None,
         }
-        if mhz <= HPSYS_DVFS_MODE_D1_LIMIT {
-            return HpsysModeFound::Mode(HpsysDvfsMode::D1);
-        }
-        if mhz <= HPSYS_DVFS_MODE_S0_LIMIT {
-            return HpsysModeFound::Mode(HpsysDvfsMode::S0);
-        }
-        if mhz <= HPSYS_DVFS_MODE_S1_LIMIT {
-            return HpsysModeFound::Mode(HpsysDvfsMode::S1);
-        }
-        HpsysModeFound::OutOfRange
     }
 
-    pub fn from_hertz(f: Hertz) -> HpsysModeFound
+    pub fn from_hertz(f: Hertz) -> Option<HpsysDvfsMode>
         ensures { result ≡ mode_of (megahertz f.0) }
     {
         HpsysDvfsMode::from_frequency(f.whole_mhz())
@@ -102,18 +90,12 @@ impl HpsysDvfsMode {
     pub fn number(self) -> usize
         ensures { (result ≡ mode_number self) × (result < 4) }
     {
-        match self {
-            HpsysDvfsMode::D0 => 0,
-            HpsysDvfsMode::D1 => 1,
-            HpsysDvfsMode::S0 => 2,
-            HpsysDvfsMode::S1 => 3,
-        }
+        self as usize
     }
 
     pub fn get_config(self) -> HpsysDvfsConfig
         ensures { result ≡ row_of self }
     {
-        let n = self.number();
-        HPSYS_DVFS_CONFIG[n]
+        HPSYS_DVFS_CONFIG[self.number()]
     }
 }

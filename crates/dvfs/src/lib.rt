@@ -7,5 +7,5 @@ pub mod lpsys;
 
 pub use hpsys::{
     HPSYS_DVFS_MODE_D0_LIMIT, HPSYS_DVFS_MODE_D1_LIMIT, HPSYS_DVFS_MODE_S0_LIMIT,
-    HPSYS_DVFS_MODE_S1_LIMIT, HpsysDvfsConfig, HpsysDvfsMode, HpsysModeFound, is_hpsys_dvfs_mode_s,
+    HPSYS_DVFS_MODE_S1_LIMIT, HpsysDvfsConfig, HpsysDvfsMode, is_hpsys_dvfs_mode_s,
 };

@@ -15,8 +15,7 @@ const HPSYS_DLL2_LIMIT: [u32; 4] = [0, 0, 288_000_000, 288_000_000];
 pub fn hpsys_dll2_limit(mode: HpsysDvfsMode) -> Hertz
     ensures { result.0 ≡ dll2_limit mode }
 {
-    let n = mode.number();
-    Hertz(HPSYS_DLL2_LIMIT[n])
+    Hertz(HPSYS_DLL2_LIMIT[mode.number()])
 }
 
 // Whole MHz inside `Hertz`, as the source has it.

@@ -17,17 +17,10 @@ pub struct LpsysDvfsConfig {
     pub ulpmcr: u32,
 }
 
-#[derive(Clone, Copy)]
+#[derive(Clone, Copy, PartialEq, Eq)]
 pub enum LpsysDvfsMode {
     D,
     S,
-}
-
-// The mode of a frequency, none above 48 MHz.
-#[derive(Clone, Copy)]
-pub enum LpsysModeFound {
-    Mode(LpsysDvfsMode),
-    OutOfRange,
 }
 
 const LPSYS_DVFS_CONFIG: [LpsysDvfsConfig; 2] = [
@@ -42,28 +35,26 @@ const LPSYS_DVFS_CONFIG: [LpsysDvfsConfig; 2] = [
 ];
 
 // Supply 1 is S, 0 is D.
-pub fn is_lpsys_dvfs_mode_s(h: Head) -> bool
-    ensures { result ≡ eqb (get_or h.regs 28 0) 1 }
+pub fn is_lpsys_dvfs_mode_s(h: &Head) -> bool
+    ensures { result ≡ eqb (get_or h.now.regs 28 0) 1 }
 {
-    let supply = h.regs[register::LPSYS_SUPPLY];
-    supply == 1
+    h.regs[register::LPSYS_SUPPLY] == 1
 }
 
 impl LpsysDvfsMode {
-    pub fn from_frequency(f: Megahertz) -> LpsysModeFound
+    // None above 48 MHz.
+    #[tactic(auto, unfolding(crate::specs::lpsys::lpsys_mode_of))]
+    pub fn from_frequency(f: Megahertz) -> Option<LpsysDvfsMode>
         ensures { result ≡ lpsys_mode_of f.0 }
     {
-        let mhz = f.0;
-        if mhz <= LPSYS_DVFS_MODE_D_LIMIT {
-            return LpsysModeFound::Mode(LpsysDvfsMode::D);
+        match f.0 {
+            ..=LPSYS_DVFS_MODE_D_LIMIT => Some(LpsysDvfsMode::D),
+            ..=LPSYS_DVFS_MODE_S_LIMIT => Some(LpsysDvfsMode::S),
+            _ => None,
         }
-        if mhz <= LPSYS_DVFS_MODE_S_LIMIT {
-            return LpsysModeFound::Mode(LpsysDvfsMode::S);
-        }
-        LpsysModeFound::OutOfRange
     }
 
-    pub fn from_hertz(f: Hertz) -> LpsysModeFound
+    pub fn from_hertz(f: Hertz) -> Option<LpsysDvfsMode>
         ensures { result ≡ lpsys_mode_of (megahertz f.0) }
     {
         LpsysDvfsMode::from_frequency(f.whole_mhz())
@@ -72,16 +63,12 @@ impl LpsysDvfsMode {
     pub fn number(self) -> usize
         ensures { (result ≡ lpsys_number_of self) × (result < 2) }
     {
-        match self {
-            LpsysDvfsMode::D => 0,
-            LpsysDvfsMode::S => 1,
-        }
+        self as usize
     }
 
     pub fn get_config(self) -> LpsysDvfsConfig
         ensures { result ≡ lpsys_row_of self }
     {
-        let n = self.number();
-        LPSYS_DVFS_CONFIG[n]
+        LPSYS_DVFS_CONFIG[self.number()]
     }
 }

@@ -6,7 +6,7 @@ pub mod volts;
 
 ghost use Rattle.std.specs.Prelude.{◌≡◌};
 ghost use Rattle.journal.specs.Machine.{Lent, Does, none};
-ghost use Rattle.dvfs_hpsys.specs.HpsysModes.{is_s, same_mode, hpsys_first, hpsys_second};
+ghost use Rattle.dvfs_hpsys.specs.HpsysModes.{is_s, hpsys_first, hpsys_second};
 
 use dvfs::HpsysDvfsMode;
 use journal::Machine;
@@ -14,57 +14,43 @@ use journal::Machine;
 fn is_s(mode: HpsysDvfsMode) -> bool
     ensures { result ≡ is_s mode }
 {
-    match mode {
-        HpsysDvfsMode::D0 => false,
-        HpsysDvfsMode::D1 => false,
-        HpsysDvfsMode::S0 => true,
-        HpsysDvfsMode::S1 => true,
-    }
-}
-
-fn same_mode(current: HpsysDvfsMode, target: HpsysDvfsMode) -> bool
-    ensures { result ≡ same_mode current target }
-{
-    current.number() == target.number()
+    matches!(mode, HpsysDvfsMode::S0 | HpsysDvfsMode::S1)
 }
 
 // `config_hcpu_dvfs` before the clock is set.
+#[tactic(auto, unfolding(crate::specs::HpsysModes::hpsys_first))]
 pub fn config_hcpu_dvfs_first(
-    m: Machine,
+    m: &mut Machine,
     journal: &mut [u32],
     current: HpsysDvfsMode,
     target: HpsysDvfsMode,
-) -> Machine
-    requires { Lent 5 m journal.old none }
-    ensures { Does 5 (hpsys_first current target) m result journal.old journal.new none }
+)
+    requires { Lent 5 m.old journal.old none }
+    ensures { Does 5 (hpsys_first current target) m.old m.new journal.old journal.new none }
 {
-    if same_mode(current, target) {
-        return m;
+    if current == target {
+        return;
     }
-    if is_s(target) {
-        if is_s(current) {
-            return switch::switch_hcpu_dvfs_s2s_first(m, journal, target);
-        }
-        return switch::switch_hcpu_dvfs_d2s_first(m, journal, target);
+    match (is_s(target), is_s(current)) {
+        (true, true) => switch::switch_hcpu_dvfs_s2s_first(m, journal, target),
+        (true, false) => switch::switch_hcpu_dvfs_d2s_first(m, journal, target),
+        (false, _) => switch::switch_hcpu_dvfs_s2d_first(m, journal, target),
     }
-    switch::switch_hcpu_dvfs_s2d_first(m, journal, target)
 }
 
 // `config_hcpu_dvfs` after the clock is set.
+#[tactic(auto, unfolding(crate::specs::HpsysModes::hpsys_second))]
 pub fn config_hcpu_dvfs_second(
-    m: Machine,
+    m: &mut Machine,
     journal: &mut [u32],
     current: HpsysDvfsMode,
     target: HpsysDvfsMode,
-) -> Machine
-    requires { Lent 2 m journal.old none }
-    ensures { Does 2 (hpsys_second current target) m result journal.old journal.new none }
+)
+    requires { Lent 2 m.old journal.old none }
+    ensures { Does 2 (hpsys_second current target) m.old m.new journal.old journal.new none }
 {
-    if same_mode(current, target) {
-        return m;
+    if current == target || is_s(target) {
+        return;
     }
-    if is_s(target) {
-        return m;
-    }
-    switch::switch_hcpu_dvfs_s2d_second(m, journal, target)
+    switch::switch_hcpu_dvfs_s2d_second(m, journal, target);
 }

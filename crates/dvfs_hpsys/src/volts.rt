@@ -7,27 +7,27 @@ use dvfs::HpsysDvfsMode;
 use journal::Machine;
 
 // The ldo of a D mode, an offset on the reference of 1.1 V.
+#[tactic(auto, unfolding(crate::specs::volts::vref_of))]
 pub fn vref(target: HpsysDvfsMode) -> u32
     ensures { result ≡ vref_of target }
 {
-    let row = target.get_config();
-    let offset = row.ldo_offset;
-    (11 + offset) as u32
+    (11 + target.get_config().ldo_offset) as u32
 }
 
-pub fn config_hcpu_sx_mode_volt(m: Machine, journal: &mut [u32], target: HpsysDvfsMode) -> Machine
-    requires { Lent 2 m journal.old none }
-    ensures { Does 2 (sx_mode_volt target) m result journal.old journal.new none }
+#[tactic(auto, using(crate::proofs::volts::Rows::buck_fits, crate::proofs::volts::Rows::ldo_fits), unfolding(crate::specs::volts::sx_mode_volt))]
+pub fn config_hcpu_sx_mode_volt(m: &mut Machine, journal: &mut [u32], target: HpsysDvfsMode)
+    requires { Lent 2 m.old journal.old none }
+    ensures { Does 2 (sx_mode_volt target) m.old m.new journal.old journal.new none }
 {
     let row = target.get_config();
-    let m = m.store(journal, register::BUCK_VOUT, row.buck as u32);
-    m.store(journal, register::HPSYS_VOUT, row.ldo as u32)
+    m.store(journal, register::BUCK_VOUT, u32::from(row.buck));
+    m.store(journal, register::HPSYS_VOUT, u32::from(row.ldo));
 }
 
-pub fn store_timing(m: Machine, journal: &mut [u32], target: HpsysDvfsMode) -> Machine
-    requires { Lent 1 m journal.old none }
-    ensures { Does 1 (timing target) m result journal.old journal.new none }
+#[tactic(auto, using(crate::proofs::volts::Rows::timing_fits), unfolding(crate::specs::volts::timing))]
+pub fn store_timing(m: &mut Machine, journal: &mut [u32], target: HpsysDvfsMode)
+    requires { Lent 1 m.old journal.old none }
+    ensures { Does 1 (timing target) m.old m.new journal.old journal.new none }
 {
-    let row = target.get_config();
-    m.store(journal, register::HPSYS_TIMING, row.ulpmcr)
+    m.store(journal, register::HPSYS_TIMING, target.get_config().ulpmcr);
 }

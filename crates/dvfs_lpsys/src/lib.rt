@@ -11,41 +11,33 @@ use journal::Machine;
 
 // `config_lpsys_dvfs` before the clock is set.
 pub fn config_lpsys_dvfs_first(
-    m: Machine,
+    m: &mut Machine,
     journal: &mut [u32],
     current: LpsysDvfsMode,
     target: LpsysDvfsMode,
-) -> Machine
-    requires { Lent 3 m journal.old none }
-    ensures { Does 3 (lpsys_first current target) m result journal.old journal.new none }
+)
+    requires { Lent 3 m.old journal.old none }
+    ensures { Does 3 (lpsys_first current target) m.old m.new journal.old journal.new none }
 {
-    match current {
-        LpsysDvfsMode::D => match target {
-            LpsysDvfsMode::D => m,
-            LpsysDvfsMode::S => switch::switch_lpsys_dvfs_d2s_first(m, journal),
-        },
-        LpsysDvfsMode::S => match target {
-            LpsysDvfsMode::D => switch::switch_lpsys_dvfs_s2d_first(m, journal),
-            LpsysDvfsMode::S => m,
-        },
+    match (current, target) {
+        (LpsysDvfsMode::D, LpsysDvfsMode::S) => switch::switch_lpsys_dvfs_d2s_first(m, journal),
+        (LpsysDvfsMode::S, LpsysDvfsMode::D) => switch::switch_lpsys_dvfs_s2d_first(m, journal),
+        (LpsysDvfsMode::D, LpsysDvfsMode::D) | (LpsysDvfsMode::S, LpsysDvfsMode::S) => {}
     }
 }
 
 // `config_lpsys_dvfs` after the clock is set.
 pub fn config_lpsys_dvfs_second(
-    m: Machine,
+    m: &mut Machine,
     journal: &mut [u32],
     current: LpsysDvfsMode,
     target: LpsysDvfsMode,
-) -> Machine
-    requires { Lent 2 m journal.old none }
-    ensures { Does 2 (lpsys_second current target) m result journal.old journal.new none }
+)
+    requires { Lent 2 m.old journal.old none }
+    ensures { Does 2 (lpsys_second current target) m.old m.new journal.old journal.new none }
 {
-    match current {
-        LpsysDvfsMode::D => m,
-        LpsysDvfsMode::S => match target {
-            LpsysDvfsMode::D => switch::switch_lpsys_dvfs_s2d_second(m, journal),
-            LpsysDvfsMode::S => m,
-        },
+    match (current, target) {
+        (LpsysDvfsMode::S, LpsysDvfsMode::D) => switch::switch_lpsys_dvfs_s2d_second(m, journal),
+        (LpsysDvfsMode::D, _) | (LpsysDvfsMode::S, LpsysDvfsMode::S) => {}
     }
 }

@@ -21,27 +21,21 @@ pub fn limit(mode: HpsysDvfsMode) -> Hertz
 fn ldo(mode: HpsysDvfsMode) -> u32
     ensures { result ≡ ldo_of mode }
 {
-    let row = mode.get_config();
     match mode {
-        HpsysDvfsMode::D0 => dvfs_hpsys::volts::vref(mode),
-        HpsysDvfsMode::D1 => dvfs_hpsys::volts::vref(mode),
-        HpsysDvfsMode::S0 => row.ldo as u32,
-        HpsysDvfsMode::S1 => row.ldo as u32,
+        HpsysDvfsMode::D0 | HpsysDvfsMode::D1 => dvfs_hpsys::volts::vref(mode),
+        HpsysDvfsMode::S0 | HpsysDvfsMode::S1 => u32::from(mode.get_config().ldo),
     }
 }
 
 // Whether a buck and an ldo are at least those of a mode's row.
+#[tactic(auto, unfolding(crate::specs::rail::met))]
 fn meets(mode: HpsysDvfsMode, has_buck: u32, has_ldo: u32) -> bool
     ensures { result ≡ met mode has_buck has_ldo }
 {
-    let row = mode.get_config();
-    let buck = row.buck as u32;
-    if has_buck < buck {
-        return false;
-    }
-    ldo(mode) <= has_ldo
+    u32::from(mode.get_config().buck) <= has_buck && ldo(mode) <= has_ldo
 }
 
+#[tactic(auto, unfolding(crate::specs::rail::higher))]
 fn higher(low: HpsysDvfsMode, high: HpsysDvfsMode, buck: u32, ldo: u32) -> Hertz
     ensures { result.0 ≡ higher low high buck ldo }
 {
@@ -54,22 +48,22 @@ fn higher(low: HpsysDvfsMode, high: HpsysDvfsMode, buck: u32, ldo: u32) -> Hertz
     Hertz(0)
 }
 
-pub fn rail_limit(h: Head) -> Hertz
-    ensures { result.0 ≡ rail_limit h }
+#[tactic(auto, unfolding(crate::specs::rail::rail_limit))]
+pub fn rail_limit(h: &Head) -> Hertz
+    ensures { result.0 ≡ rail_limit h.now }
 {
-    let regs = h.regs;
     if dvfs::is_hpsys_dvfs_mode_s(h) {
         return higher(
             HpsysDvfsMode::S0,
             HpsysDvfsMode::S1,
-            regs[register::BUCK_VOUT],
-            regs[register::HPSYS_VOUT],
+            h.regs[register::BUCK_VOUT],
+            h.regs[register::HPSYS_VOUT],
         );
     }
     higher(
         HpsysDvfsMode::D0,
         HpsysDvfsMode::D1,
-        regs[register::SET_VOUT_M],
-        regs[register::HPSYS_LDO],
+        h.regs[register::SET_VOUT_M],
+        h.regs[register::HPSYS_LDO],
     )
 }

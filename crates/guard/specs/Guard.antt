@@ -4,7 +4,7 @@ use Rattle.record.specs.Refusals.{first_of}
 use Rattle.plan.specs.bytes.{plan_of}
 use Rattle.verdict.specs.Verdict.{verdict, number_of}
 use Rattle.head.specs.Record.{head_of}
-use Rattle.call.specs.Call.{Result, answers_tests, performed}
+use Rattle.call.specs.Call.{Left, answers_tests, performed}
 use Rattle.guard_change.specs.Change.{change}
 use Rattle.guard.specs.tests.{guard_tests}
 
@@ -16,5 +16,5 @@ change_tests pb b = number_of (verdict pb) ∷ guard_tests (plan_of pb) (head_of
 abbrev pub change_refusal : List ℕ → List ℕ → List ℕ → List ℕ → ℕ
 change_refusal pb b j a = first_of (answers_tests b j a ++ change_tests pb b)
 
-unfoldable pub change_call : List ℕ → List ℕ → List ℕ → List ℕ → Result
+unfoldable pub change_call : List ℕ → List ℕ → List ℕ → List ℕ → Left
 change_call pb b j a = performed (change_refusal pb b j a) (change (plan_of pb) a) 0 b j

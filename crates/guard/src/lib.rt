@@ -12,21 +12,10 @@ use call::Answer;
 pub fn change(buffer: &mut [u8], plan: &[u8], journal: &mut [u32], answers: &[u16]) -> Answer
     ensures { Answers (change_call plan.now buffer.old journal.old answers.now) result buffer.new journal.new }
 {
-    let admitted = call::admit_with_answers(buffer, journal, answers);
-    if admitted.refusal != 0 {
-        return Answer::refused(admitted.refusal);
-    }
-    let planned = verdict::planned::admit(plan);
-    if planned.refusal != 0 {
-        return Answer::refused(planned.refusal);
-    }
-    let head = admitted.head;
+    let mut m = call::admit_with_answers(buffer, journal, answers)?;
+    let planned = verdict::planned::admit(plan)?;
     let hclk = planned.target.hclk;
-    let refused = tests::refusal(planned.plan, hclk, head);
-    if refused != 0 {
-        return Answer::refused(refused);
-    }
-    let begun = call::start(head);
-    let m = guard_change::change(begun, journal, answers, planned.plan, hclk);
-    call::finish(m, 0, buffer)
+    tests::test(planned.plan, hclk, &m.head)?;
+    guard_change::change(&mut m, journal, answers, planned.plan, hclk);
+    call::finish(&m, 0, buffer)
 }

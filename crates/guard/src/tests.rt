@@ -1,5 +1,6 @@
 // The tests of the guarded change: 37, 38 and 39.
 ghost use Rattle.std.specs.Prelude.{◌≡◌};
+ghost use Rattle.refusal.specs.Refusal.{number_of};
 ghost use Rattle.record.specs.Refusals.{first_of};
 ghost use Rattle.plan_clocks.specs.Clocks.{hclk_hz};
 ghost use Rattle.head.specs.Encodable.{Encodable};
@@ -7,54 +8,42 @@ ghost use Rattle.guard.specs.tests.{unready, overloaded, guard_tests};
 
 use head::Head;
 use plan::Plan;
+use refusal::Refusal;
 use time::Hertz;
 
 // A plan's core select.
 const HRC48: u8 = 0;
 
 // Whether HXT48, or a planned HRC48, is not ready.
-fn is_unready(p: Plan, head: Head) -> bool
-    ensures { result ≡ unready p head }
+fn is_unready(p: Plan, head: &Head) -> bool
+    ensures { result ≡ unready p head.now }
 {
-    if !head.hxt48_ready {
-        return true;
-    }
-    if p.sys != HRC48 {
-        return false;
-    }
-    !head.hrc48_ready
-}
-
-// The load that a clock carries.
-fn limit(target: Hertz) -> u64
-    ensures { result ≡ target.0 }
-{
-    target.0 as u64
+    !head.hxt48_ready || (p.sys == HRC48 && !head.hrc48_ready)
 }
 
 // Whether the booked tasks ask for more than a clock.
-fn is_overloaded(target: Hertz, head: Head) -> bool
-    requires { Encodable head }
-    ensures { result ≡ overloaded target.0 head }
+fn is_overloaded(target: Hertz, head: &Head) -> bool
+    requires { Encodable head.now }
+    ensures { result ≡ overloaded target.0 head.now }
 {
-    let tasks = head.tasks;
-    limit(target) < load::load(tasks, head.count as usize)
+    u64::from(target.0) < load::total(head.booked())
 }
 
-// 37, 38 or 39, and 0 for a change that can be made; `target` is the plan's HCLK.
-pub fn refusal(p: Plan, target: Hertz, head: Head) -> u8
-    requires encodable { Encodable head }
+// 37, 38 and 39; `target` is the plan's HCLK.
+#[tactic(auto, unfolding(record::specs::Refusals::first_of))]
+pub fn test(p: Plan, target: Hertz, head: &Head) -> Result<(), Refusal>
+    requires encodable { Encodable head.now }
     requires target_value { target.0 ≡ hclk_hz p }
-    ensures { result ≡ first_of (guard_tests p head) }
+    ensures { number_of result ≡ first_of (guard_tests p head.now) }
 {
     if !fit::is_fit(head) {
-        return 37;
+        return Err(Refusal::Unfit);
     }
     if is_unready(p, head) {
-        return 38;
+        return Err(Refusal::Oscillator);
     }
     if is_overloaded(target, head) {
-        return 39;
+        return Err(Refusal::Load);
     }
-    0
+    Ok(())
 }

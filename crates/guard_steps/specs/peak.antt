@@ -1,16 +1,14 @@
 -- The peak of a guarded change.
-use Rattle.std.specs.Prelude.{ℕ, cond, leb}
+use Rattle.std.specs.Prelude.{ℕ, cond, leb, Option, Some, None}
 use Rattle.time.specs.Frequency.{megahertz}
 use Rattle.dvfs.specs.declared.hpsys.HpsysDvfsMode.{HpsysDvfsMode}
 use Rattle.dvfs.specs.declared.hpsys.HpsysDvfsMode.TheVariants.{D1, S1}
-use Rattle.dvfs.specs.declared.hpsys.HpsysModeFound.{HpsysModeFound}
-use Rattle.dvfs.specs.declared.hpsys.HpsysModeFound.TheVariants.{Mode, OutOfRange}
 use Rattle.dvfs.specs.Hpsys.{mode_of, mode_number}
 
 -- the mode of a frequency in Hz; the highest where it has none, which neither a clock within its rail limit nor an accepted plan's is
-abbrev pub mode_or_highest : HpsysModeFound → HpsysDvfsMode
-mode_or_highest (Mode m) = m
-mode_or_highest OutOfRange = S1
+abbrev pub mode_or_highest : Option HpsysDvfsMode → HpsysDvfsMode
+mode_or_highest (Some m) = m
+mode_or_highest None = S1
 
 unfoldable pub mode_at : ℕ → HpsysDvfsMode
 mode_at hz = mode_or_highest (mode_of (megahertz hz))

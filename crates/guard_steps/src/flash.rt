@@ -10,10 +10,7 @@ const DLL1: u32 = 1;
 pub fn is_on_dll1(selects: u32) -> bool
     ensures { result ≡ on_dll1 selects }
 {
-    if register::b(selects) == DLL1 {
-        return true;
-    }
-    register::c(selects) == DLL1
+    register::b(selects) == DLL1 || register::c(selects) == DLL1
 }
 
 // Peri in place of DLL1.
@@ -28,6 +25,7 @@ fn away(select: u32) -> u32
 }
 
 // The selects with Peri in place of DLL1.
+#[tactic(auto, using(crate::proofs::flash::Fits::moved_fits))]
 pub fn moved(selects: u32) -> u32
     requires { fits_register FLASH selects ≡ true }
     ensures { (result ≡ moved selects) × (fits_register FLASH result ≡ true) }

@@ -18,50 +18,46 @@ use plan::Plan;
 const HXT48: u32 = 1;
 
 // Step 2: flash selects on DLL1 go to Peri.
-pub fn leave_dll1(m: Machine, journal: &mut [u32]) -> Machine
-    requires { Lent 1 m journal.old none }
-    ensures { Does 1 leave_dll1 m result journal.old journal.new none }
+#[tactic(auto, unfolding(crate::specs::Steps::leave_dll1))]
+pub fn leave_dll1(m: &mut Machine, journal: &mut [u32])
+    requires { Lent 1 m.old journal.old none }
+    ensures { Does 1 leave_dll1 m.old m.new journal.old journal.new none }
 {
-    let head = m.head;
-    let selects = head.regs[register::FLASH];
-    if flash::is_on_dll1(selects) {
-        return m.store(journal, register::FLASH, flash::moved(selects));
+    let old = m.head.regs[register::FLASH];
+    if flash::is_on_dll1(old) {
+        m.store(journal, register::FLASH, flash::moved(old));
     }
-    m
 }
 
 // Step 3: the core goes to HXT48.
-pub fn to_hxt48(m: Machine, journal: &mut [u32]) -> Machine
-    requires { Lent 1 m journal.old none }
-    ensures { Does 1 to_hxt48 m result journal.old journal.new none }
+#[tactic(auto, using(core_clock::proofs::dividers::Fits::select_fits), unfolding(crate::specs::Steps::to_hxt48))]
+pub fn to_hxt48(m: &mut Machine, journal: &mut [u32])
+    requires { Lent 1 m.old journal.old none }
+    ensures { Does 1 to_hxt48 m.old m.new journal.old journal.new none }
 {
-    let head = m.head;
-    let select = head.regs[register::SYSCLK];
-    if select == HXT48 {
-        return m;
+    if m.head.regs[register::SYSCLK] != HXT48 {
+        m.store(journal, register::SYSCLK, HXT48);
     }
-    m.store(journal, register::SYSCLK, HXT48)
 }
 
 // Step 6: the core goes to the plan's select.
-pub fn to_planned(m: Machine, journal: &mut [u32], p: Plan) -> Machine
-    requires lent { Lent 1 m journal.old none }
+#[tactic(auto, using(core_clock::proofs::dividers::Fits::sys_fits), unfolding(crate::specs::Steps::to_planned))]
+pub fn to_planned(m: &mut Machine, journal: &mut [u32], p: Plan)
+    requires lent { Lent 1 m.old journal.old none }
     requires p_value { legal p ≡ true }
-    ensures { Does 1 (to_planned p) m result journal.old journal.new none }
+    ensures { Does 1 (to_planned p) m.old m.new journal.old journal.new none }
 {
-    let sys = p.sys;
-    m.store(journal, register::SYSCLK, sys as u32)
+    m.store(journal, register::SYSCLK, u32::from(p.sys));
 }
 
 // Step 7: flash selects that were on DLL1 go back to what they were.
-pub fn back_to(m: Machine, journal: &mut [u32], selects: u32) -> Machine
-    requires lent { Lent 1 m journal.old none }
+#[tactic(auto, unfolding(crate::specs::Steps::back_to))]
+pub fn back_to(m: &mut Machine, journal: &mut [u32], selects: u32)
+    requires lent { Lent 1 m.old journal.old none }
     requires selects_value { fits_register FLASH selects ≡ true }
-    ensures { Does 1 (back_to selects) m result journal.old journal.new none }
+    ensures { Does 1 (back_to selects) m.old m.new journal.old journal.new none }
 {
-    let were_moved = flash::is_on_dll1(selects);
-    if were_moved {
-        return m.store(journal, register::FLASH, selects);
+    if flash::is_on_dll1(selects) {
+        m.store(journal, register::FLASH, selects);
     }
-    m
 }

@@ -3,4 +3,3 @@ pub mod Parts
 pub mod Decoding
 pub mod Encoding
 pub mod Past
-pub mod Answers

@@ -40,7 +40,7 @@ head_of b =
       count = count_in b;
     }
 
--- what a refused record gives
+-- a head of zeros, with no task
 unfoldable pub blank : Head
 blank =
     record {

@@ -1,19 +1,13 @@
 // The head record: from bytes to a head, refusals 1 to 3.
 ghost use Rattle.std.specs.Prelude.{◌≡◌, ◌≤◌, length};
+ghost use Rattle.refusal.specs.Refusal.{number_of};
 ghost use Rattle.task.specs.bytes.{count_in};
 ghost use Rattle.layout.specs.Layout.{most_tasks, length_of, buffer_bytes};
-ghost use Rattle.head.specs.Record.{length_fits, head_refusal, head_of, blank};
+ghost use Rattle.head.specs.Record.{length_fits, head_refusal, head_of};
 ghost use Rattle.head.specs.from_bytes.Decodes.{Decodes};
 
 use crate::Head;
-use task::Task;
-
-// What decoding answers: a refusal, 0 for none, and the head, blank on a refusal.
-#[derive(Clone, Copy)]
-pub struct Decoded {
-    pub refusal: u8,
-    pub head: Head,
-}
+use refusal::Refusal;
 
 // The length of a record with so many tasks.
 pub fn length_of(count: u8) -> usize
@@ -23,6 +17,7 @@ pub fn length_of(count: u8) -> usize
 }
 
 // Whether the buffer's length, the task count and the record's length fit each other.
+#[tactic(auto, unfolding(crate::specs::Record::length_fits))]
 fn length_fits(buffer: &[u8]) -> bool
     ensures { result ≡ length_fits buffer.now }
 {
@@ -36,50 +31,29 @@ fn length_fits(buffer: &[u8]) -> bool
     record::two_bytes(buffer[0], buffer[1]) as usize == length_of(count)
 }
 
-// The first refusal of a record, 0 where there is none.
-fn refusal(buffer: &[u8]) -> u8
-    ensures { result ≡ head_refusal buffer.now }
+// The tests of a record.
+#[tactic(auto, unfolding(crate::specs::Record::head_refusal, crate::specs::Record::length_fits, record::specs::Refusals::first_of))]
+pub fn test(buffer: &[u8]) -> Result<(), Refusal>
+    ensures { number_of result ≡ head_refusal buffer.now }
 {
     if !length_fits(buffer) {
-        return 1;
+        return Err(Refusal::Length);
     }
     if buffer[layout::VERSION_AT] != 1 {
-        return 2;
+        return Err(Refusal::Version);
     }
     if !register::bytes::codes::within(buffer) {
-        return 3;
+        return Err(Refusal::Code);
     }
     if !task::list::fit(buffer) {
-        return 3;
+        return Err(Refusal::Code);
     }
-    0
-}
-
-// What a refused record gives.
-pub fn blank_head() -> Head
-    ensures { result ≡ blank }
-{
-    let none = Task {
-        id: 0,
-        cycles: 0,
-        period: 0,
-    };
-    let regs = [0u32; 35];
-    let tasks = [none; layout::MOST_TASKS];
-    Head {
-        regs,
-        hxt48_ready: false,
-        hrc48_ready: false,
-        lpsys_hxt48_ready: false,
-        boot_mode: 0,
-        wake_count: 0,
-        tasks,
-        count: 0,
-    }
+    Ok(())
 }
 
 // The head of a record that is not refused.
-fn read(buffer: &[u8]) -> Head
+#[tactic(auto, unfolding(crate::specs::Record::head_of))]
+pub fn read(buffer: &[u8]) -> Head
     requires { (length buffer.now ≡ buffer_bytes) × (count_in buffer.now ≤ most_tasks) }
     ensures { result ≡ head_of buffer.now }
 {
@@ -98,17 +72,10 @@ fn read(buffer: &[u8]) -> Head
 }
 
 // The head at the front of a buffer, or its refusal.
-pub fn decode(buffer: &[u8]) -> Decoded
+#[tactic(auto, using(crate::proofs::from_bytes::Passed::passed, crate::proofs::from_bytes::Decoding::decode_encodable))]
+pub fn decode(buffer: &[u8]) -> Result<Head, Refusal>
     ensures { Decodes buffer.now result }
 {
-    let refused = refusal(buffer);
-    if refused != 0 {
-        let head = blank_head();
-        return Decoded {
-            refusal: refused,
-            head,
-        };
-    }
-    let head = read(buffer);
-    Decoded { refusal: 0, head }
+    test(buffer)?;
+    Ok(read(buffer))
 }

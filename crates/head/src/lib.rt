@@ -5,6 +5,10 @@ pub mod from_bytes;
 pub mod tasks;
 pub mod to_bytes;
 
+ghost use Rattle.std.specs.Prelude.{◌≡◌, ◌≤◌};
+ghost use Rattle.layout.specs.Layout.{most_tasks};
+ghost use Rattle.head.specs.Head.{booked};
+
 pub use task::Task;
 
 #[derive(Clone, Copy)]
@@ -19,4 +23,14 @@ pub struct Head {
     // The first `count` are booked; those past them are all zero.
     pub tasks: [Task; layout::MOST_TASKS],
     pub count: u8,
+}
+
+impl Head {
+    // The booked tasks.
+    pub fn booked(&self) -> &[Task]
+        requires { self.now.count ≤ most_tasks }
+        ensures { result.now ≡ booked self.now }
+    {
+        &self.tasks[..usize::from(self.count)]
+    }
 }

@@ -12,26 +12,19 @@ fn write_front(count: u8, buffer: &mut [u8])
     requires { (length buffer.old ≡ buffer_bytes) × (count ≤ most_tasks) }
     ensures { buffer.new ≡ laid 0 (front_of count) buffer.old }
 {
-    let length = crate::from_bytes::length_of(count);
-    let front = [(length / 256) as u8, (length % 256) as u8, 1];
-    record::put(buffer, 0, &front);
-}
-
-fn flag(on: bool) -> u8
-    ensures { result ≡ bit on }
-{
-    if on { 1 } else { 0 }
+    let [high, low] = (crate::from_bytes::length_of(count) as u16).to_be_bytes();
+    record::put(buffer, 0, &[high, low, 1]);
 }
 
 // The ready flags, boot mode, wake count and task count.
-fn write_state(head: Head, buffer: &mut [u8])
+fn write_state(head: &Head, buffer: &mut [u8])
     requires { length buffer.old ≡ buffer_bytes }
-    ensures { buffer.new ≡ laid hxt48_ready_at (state_of head) buffer.old }
+    ensures { buffer.new ≡ laid hxt48_ready_at (state_of head.now) buffer.old }
 {
     let state = [
-        flag(head.hxt48_ready),
-        flag(head.hrc48_ready),
-        flag(head.lpsys_hxt48_ready),
+        u8::from(head.hxt48_ready),
+        u8::from(head.hrc48_ready),
+        u8::from(head.lpsys_hxt48_ready),
         head.boot_mode,
         head.wake_count,
         head.count,
@@ -40,15 +33,12 @@ fn write_state(head: Head, buffer: &mut [u8])
 }
 
 // Writes a head's record at the front of a buffer.
-pub fn encode(head: Head, buffer: &mut [u8])
-    requires { (length buffer.old ≡ buffer_bytes) × (head.count ≤ most_tasks) }
-    ensures { buffer.new ≡ written head buffer.old }
+pub fn encode(head: &Head, buffer: &mut [u8])
+    requires { (length buffer.old ≡ buffer_bytes) × (head.now.count ≤ most_tasks) }
+    ensures { buffer.new ≡ written head.now buffer.old }
 {
-    let count = head.count;
-    let regs = head.regs;
-    let tasks = head.tasks;
-    write_front(count, buffer);
-    register::bytes::write(regs, buffer);
+    write_front(head.count, buffer);
+    register::bytes::write(&head.regs, buffer);
     write_state(head, buffer);
-    task::bytes::write(tasks, count, buffer);
+    task::bytes::write(head.booked(), buffer);
 }

@@ -6,26 +6,15 @@ use Rattle.register.specs.Numbers.{SYSCLK, PERI, LOW_POWER, HXT48_REQUEST, LRC32
 use Rattle.register.specs.Word.{word_bytes}
 use Rattle.register.specs.Codes.{fits_register, largest}
 
-pub sysclk_fits : fits_register SYSCLK 1 ≡ true
-unfolding fits_register is_within word_bytes largest
-sysclk_fits = refl
+-- one by one
+pub record FlagsFit : Type 0 where
+  pub sysclk : fits_register SYSCLK 1 ≡ true
+  pub peri : fits_register PERI 1 ≡ true
+  pub low_power : fits_register LOW_POWER 1 ≡ true
+  pub hxt48 : fits_register HXT48_REQUEST 1 ≡ true
+  pub lrc32 : fits_register LRC32_ON 1 ≡ true
+  pub buffer : fits_register DLL_BUFFER_ON 1 ≡ true
 
-pub peri_fits : fits_register PERI 1 ≡ true
+pub flags_fit : FlagsFit
 unfolding fits_register is_within word_bytes largest
-peri_fits = refl
-
-pub low_power_fits : fits_register LOW_POWER 1 ≡ true
-unfolding fits_register is_within word_bytes largest
-low_power_fits = refl
-
-pub hxt48_fits : fits_register HXT48_REQUEST 1 ≡ true
-unfolding fits_register is_within word_bytes largest
-hxt48_fits = refl
-
-pub lrc32_fits : fits_register LRC32_ON 1 ≡ true
-unfolding fits_register is_within word_bytes largest
-lrc32_fits = refl
-
-pub buffer_fits : fits_register DLL_BUFFER_ON 1 ≡ true
-unfolding fits_register is_within word_bytes largest
-buffer_fits = refl
+flags_fit = record { sysclk = refl; peri = refl; low_power = refl; hxt48 = refl; lrc32 = refl; buffer = refl }

@@ -4,23 +4,23 @@ ghost use Rattle.init_first.specs.begin.{start_hxt48, init_begin};
 
 use journal::Machine;
 
-fn start_hxt48(m: Machine, journal: &mut [u32], answers: &[u16]) -> Machine
-    requires { Lent 2 m journal.old (taking answers.now) }
-    ensures { Does 2 (start_hxt48 answers.now) m result journal.old journal.new (taking answers.now) }
+#[tactic(auto, using(crate::proofs::Fits::flags_fit), unfolding(crate::specs::begin::start_hxt48))]
+fn start_hxt48(m: &mut Machine, journal: &mut [u32], answers: &[u16])
+    requires { Lent 2 m.old journal.old (taking answers.now) }
+    ensures { Does 2 (start_hxt48 answers.now) m.old m.new journal.old journal.new (taking answers.now) }
 {
-    let head = m.head;
-    let select = head.regs[register::SYSCLK];
-    if select != 1 {
-        return m;
+    if m.head.regs[register::SYSCLK] != 1 {
+        return;
     }
-    let m = m.store(journal, register::HXT48_REQUEST, 1);
-    waits::hxt48::wait_hxt48(m, journal, answers)
+    m.store(journal, register::HXT48_REQUEST, 1);
+    waits::hxt48::wait_hxt48(m, journal, answers);
 }
 
-pub fn init_begin(m: Machine, journal: &mut [u32], answers: &[u16]) -> Machine
-    requires { Lent 3 m journal.old (taking answers.now) }
-    ensures { Does 3 (init_begin answers.now) m result journal.old journal.new (taking answers.now) }
+#[tactic(auto, using(crate::proofs::Fits::flags_fit), unfolding(crate::specs::begin::init_begin))]
+pub fn init_begin(m: &mut Machine, journal: &mut [u32], answers: &[u16])
+    requires { Lent 3 m.old journal.old (taking answers.now) }
+    ensures { Does 3 (init_begin answers.now) m.old m.new journal.old journal.new (taking answers.now) }
 {
-    let m = start_hxt48(m, journal, answers);
-    m.store(journal, register::PERI, 1)
+    start_hxt48(m, journal, answers);
+    m.store(journal, register::PERI, 1);
 }

@@ -1,49 +1,22 @@
 // rcc/clock_config.rs, `init` after its calibration: 31 and 33 are a warning.
 ghost use Rattle.std.specs.Prelude.{◌≡◌};
+ghost use Rattle.refusal.specs.Refusal.{number_or_zero};
 ghost use Rattle.head.specs.Encodable.{Encodable};
 ghost use Rattle.journal.specs.Machine.{DoesWithoutJournal};
-ghost use Rattle.init_first.specs.warning.{is_warning, warning, swallowed};
+ghost use Rattle.init_first.specs.warning.{warning, swallowed};
 
 use journal::Machine;
+use refusal::Refusal;
 
-// A machine that has been calibrated, and 0, or the 31 or 33 that was swallowed.
-#[derive(Clone, Copy)]
-pub struct Calibrated {
-    pub machine: Machine,
-    pub warning: u8,
-}
-
-fn is_warning(stop: u8) -> bool
-    ensures { result ≡ is_warning stop }
+// 31 and 33 end the calibration, not `init`: the one that was swallowed.
+#[tactic(auto, unfolding(crate::specs::warning::warning))]
+pub fn swallow(m: &mut Machine) -> Option<Refusal>
+    requires { Encodable m.old.head }
+    ensures does_without_journal { DoesWithoutJournal swallowed m.old m.new }
+    ensures warning_value { number_or_zero result ≡ warning (number_or_zero m.old.stop) }
 {
-    if stop == 31 {
-        return true;
-    }
-    stop == 33
-}
-
-// 31 and 33 end the calibration, not `init`.
-pub fn swallow(m: Machine) -> Calibrated
-    requires { Encodable m.head }
-    ensures does_without_journal { DoesWithoutJournal swallowed m result.machine }
-    ensures warning_value { result.warning ≡ warning m.stop }
-{
-    let stop = m.stop;
-    let head = m.head;
-    if is_warning(stop) {
-        let machine = Machine {
-            head,
-            at: m.at,
-            taken: m.taken,
-            stop: 0,
-        };
-        return Calibrated {
-            machine,
-            warning: stop,
-        };
-    }
-    Calibrated {
-        machine: m,
-        warning: 0,
+    match m.stop {
+        Some(Refusal::Hxt48NotReady | Refusal::Difference) => m.stop.take(),
+        _ => None,
     }
 }

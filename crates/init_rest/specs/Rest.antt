@@ -1,8 +1,6 @@
 -- What `init` of rcc/clock_config.rs sets after the core clock: DLL2, USB, the other selects.
-use Rattle.std.specs.Prelude.{ℕ, Bool, cond, ◌&&◌, List, eqb}
+use Rattle.std.specs.Prelude.{ℕ, Bool, cond, ◌&&◌, List, eqb, Option, None, Some}
 use Rattle.clock.specs.declared.Dll.{Dll}
-use Rattle.clock.specs.declared.MaybeDll.{MaybeDll}
-use Rattle.clock.specs.declared.MaybeDll.TheVariants.{Absent, Present}
 use Rattle.plan.specs.declared.Plan.{Plan}
 use Rattle.record.specs.Bytes.{bit}
 use Rattle.register.specs.Word.{byte_a, byte_b, byte_c}
@@ -29,9 +27,9 @@ set_dll2_on d a h = cond (is_set d (reg h DLL2)) idle (move_dll2 d (flash_back (
 unfoldable pub set_dll2 : Dll → List ℕ → Effect
 set_dll2 d a r = set_dll2_on d a r.head r
 
-abbrev pub planned_dll2 : MaybeDll → List ℕ → Effect
-planned_dll2 Absent a = idle
-planned_dll2 (Present d) a = set_dll2 d a
+abbrev pub planned_dll2 : Option Dll → List ℕ → Effect
+planned_dll2 None a = idle
+planned_dll2 (Some d) a = set_dll2 d a
 
 -- all of it; no flash select of the plan is stored
 unfoldable pub init_rest : Plan → List ℕ → Effect

@@ -16,6 +16,7 @@ fn back_to(select: u32) -> u32
 }
 
 // What the register of the flash selects is set back to, from what it held before.
+#[tactic(auto, using(crate::proofs::Fits::flash_fits), unfolding(crate::specs::flash::flash_back))]
 pub fn flash_back(old: u32) -> u32
     ensures { (result ≡ flash_back old) × (fits_register FLASH result ≡ true) }
 {

@@ -7,14 +7,13 @@ use lib.Dec.{eqb}
 use native.Mathlib.Omega.{arith}
 use native.Mathlib.Nat.{le_trans, mul-le-mul_left, mul-le-mul_right}
 use Rattle.time.specs.declared.Hertz.{Hertz}
-use Rattle.time.specs.declared.Reading.{Reading}
-use Rattle.time.specs.declared.Reading.TheVariants.{At, Unreadable}
+use Rattle.std.specs.Prelude.{Option, Some, None}
 use Rattle.head.specs.Encodable.{Encodable}
 use Rattle.clock_read.specs.Hpsys.{hclk_of}
 use Rattle.clock_read.proofs.Most.{Most, most_at, most_hclk}
 use Rattle.journal.specs.declared.Machine.{Machine}
 use Rattle.journal.specs.Run.{Run, entry, cycles, unless_ended, with_entry, halted, delayed, delay}
-use Rattle.journal.specs.Machine.{machine_of}
+use Rattle.journal.specs.Machine.{State, state_of, machine_of}
 
 -- a millisecond at 384 MHz is 384,000 cycles
 pub product_most : (f us : ℕ) → f ≤ 384000000 → us ≤ 1000 → f * us ≤ 384000000000
@@ -48,32 +47,32 @@ lasts hz us p q =
     }
 
 -- "Delays that are never short": the entry that a delay writes, at the HCLK that reads
-pub delay_lasts : (us : ℕ) (r : Run) (f : Hertz) → us ≤ 1000 → Encodable r.head → r.stop ≡ 0 → hclk_of r.head ≡ At f →
+pub delay_lasts : (us : ℕ) (r : Run) (f : Hertz) → us ≤ 1000 → Encodable r.head → r.stop ≡ 0 → hclk_of r.head ≡ Some f →
     ((delay us r).entries ≡ r.entries ++ (entry 48 (cycles f.0 us) ∷ [])) × Lasts f.0 us (entry 48 (cycles f.0 us))
 unfolding delay unless_ended
 delay_lasts us r f short encodable running reads =
     (rw (running, reads) refl, lasts f.0 us (most_at (subst (Most 384000000) reads (most_hclk _ encodable))) short)
 
 -- where HCLK reads, a delay is its entry
-pub delay_reads : (m : Machine) (us : ℕ) (f : Hertz) → hclk_of m.head ≡ At f → (r : Run) → m ≡ machine_of r → unless_ended (with_entry (entry 48 (cycles f.0 us))) r ≡ delay us r
+pub delay_reads : (m : Machine) (us : ℕ) (f : Hertz) → hclk_of m.head ≡ Some f → (r : Run) → state_of m ≡ machine_of r → unless_ended (with_entry (entry 48 (cycles f.0 us))) r ≡ delay us r
 unfolding delay unless_ended
 delay_reads m us f e r q =
-    let reads : hclk_of r.head ≡ At f = ap (λ (w : Machine). hclk_of w.head) (sym q) ∙ e in rw reads refl
+    let reads : hclk_of r.head ≡ Some f = ap (λ (w : State). hclk_of w.head) (sym q) ∙ e in rw reads refl
 
 -- where it does not, 34
-pub delay_unread : (m : Machine) (us : ℕ) → hclk_of m.head ≡ Unreadable → (r : Run) → m ≡ machine_of r → halted 34 r ≡ delay us r
+pub delay_unread : (m : Machine) (us : ℕ) → hclk_of m.head ≡ None → (r : Run) → state_of m ≡ machine_of r → halted 34 r ≡ delay us r
 unfolding delay halted unless_ended
 delay_unread m us e r q =
-    let none : hclk_of r.head ≡ Unreadable = ap (λ (w : Machine). hclk_of w.head) (sym q) ∙ e in rw none refl
+    let none : hclk_of r.head ≡ None = ap (λ (w : State). hclk_of w.head) (sym q) ∙ e in rw none refl
 
 -- a delay leaves the head as it is
 pub delay_head : (us : ℕ) (r : Run) → (delay us r).head ≡ r.head
 unfolding delay unless_ended
 delay_head us r = by (eqb r.stop 0)
   where
-    read : (f : Reading) → (delayed f us r).head ≡ r.head
-    read (At f) = refl
-    read Unreadable = refl
+    read : (f : Option Hertz) → (delayed f us r).head ≡ r.head
+    read (Some f) = refl
+    read None = refl
 
     by : (t : Bool) → (cond t (delayed (hclk_of r.head) us r) r).head ≡ r.head
     by true = read (hclk_of r.head)

@@ -2,15 +2,18 @@
 use Prim.Native.Nat.{ℕ, ◌+◌, ◌≤◌}
 use native.Mathlib.Omega.{arith}
 use mathlib.Core.Path.{◌≡◌, refl, ap, ◌∙◌}
+use mathlib.Core.Bool.{true, false}
 use mathlib.Core.List.{List}
 use lib.ListN.{length, take, length-append, length-drop, take-append-drop}
 use lib.Seq.{length-take-le}
+use Rattle.std.specs.Option.{is_some}
+use Rattle.refusal.specs.Refusal.{number_or_zero}
 use Rattle.head.specs.declared.Head.{Head}
 use Rattle.head.specs.Encodable.{Encodable}
 use Rattle.journal.specs.declared.Machine.{Machine}
-use Rattle.journal.specs.Run.{Run, Effect, idle, ◌▸◌}
-use Rattle.journal.specs.Machine.{machine_of, Reached, Answers, none, taking, InHand, Took, Lent, Does, DoesWithoutJournal}
-use Rattle.journal.proofs.Reached.{ran_then, ran_idle, ran_as}
+use Rattle.journal.specs.Run.{Run, Effect, idle, ◌▸◌, unless_ended, with_head}
+use Rattle.journal.specs.Machine.{State, state_of, machine_of, Reached, Answers, none, taking, InHand, Took, Lent, Does, DoesWithoutJournal}
+use Rattle.journal.proofs.Reached.{ran_then, ran_idle, ran_as, ran_ended, ran_with_head}
 
 -- the answers of two functions, one after the other
 infixl 25 ◌or◌
@@ -39,11 +42,11 @@ pub ◌then◌ : {f g : Effect} {k l : ℕ} {m m' m'' : Machine} {j j' j'' : Lis
 pub same_long : {f : Effect} {k l : ℕ} {m m' : Machine} {j j' : List ℕ} {x y : Answers} →
     l ≤ k → Lent k m j x → Does l f m m' j j' y → length j' ≡ length j
 same_long {f} {k} {l} {m} {m'} {j} {j'} h s d =
-    let r : Run = record { entries = take m.at j; head = m.head; taken = m.taken; stop = m.stop } in
+    let r : Run = record { entries = take m.at j; head = m.head; taken = m.taken; stop = number_or_zero m.stop } in
     let long : length (take m.at j) ≡ m.at = length-take-le m.at j (omega (arith, s.room)) in
     let before : Reached r j m j = record { machine = rw long; journal = rw (long, take-append-drop) } in
     let after = d.ran.does r j before in
-    let place : m'.at ≡ length (f r).entries = ap (λ (w : Machine). w.at) after.machine in
+    let place : m'.at ≡ length (f r).entries = ap (λ (w : State). w.at) after.machine in
     let written = simp (length-append, length-drop) at (ap length after.journal) in
     omega (arith, written, place, d.room, s.room, h)
 
@@ -71,7 +74,7 @@ lent_none s = record { room = s.room; encodable = s.encodable; answers = tt }
 
 -- the same under another name of its effect, with room to spare
 pub does_as : {f g : Effect} {k l : ℕ} {m m' : Machine} {j j' : List ℕ} {x : Answers} →
-    ((r : Run) → m ≡ machine_of r → f r ≡ g r) → k ≤ l → Does k f m m' j j' x → Does l g m m' j j' x
+    ((r : Run) → state_of m ≡ machine_of r → f r ≡ g r) → k ≤ l → Does k f m m' j j' x → Does l g m m' j j' x
 does_as same h d = record { ran = ran_as same d.ran; room = omega (arith, d.room, h); encodable = d.encodable; answers = d.answers }
 
 pub does_within : {f : Effect} {k l : ℕ} {m m' : Machine} {j j' : List ℕ} {x : Answers} → k ≤ l → Does k f m m' j j' x → Does l f m m' j j' x
@@ -81,7 +84,7 @@ does_within h d = record { ran = d.ran; room = omega (arith, d.room, h); encodab
 pub by_head : (F : Head → Effect) {k : ℕ} {m m' : Machine} {j j' : List ℕ} {x : Answers} →
     Does k (F m.head) m m' j j' x → Does k (λ (r : Run). F r.head r) m m' j j' x
 by_head F d = record {
-  ran = ran_as (λ r q. ap (λ (w : Machine). F w.head r) q) d.ran;
+  ran = ran_as (λ r q. ap (λ (w : State). F w.head r) q) d.ran;
   room = d.room;
   encodable = d.encodable;
   answers = d.answers;
@@ -95,6 +98,9 @@ took_none (taking a) m p = p
 pub does_nothing : {k : ℕ} {m : Machine} {j : List ℕ} {x : Answers} → Lent k m j x → Does k idle m m j j x
 does_nothing {x = x} s = record { ran = ran_idle _ _; room = omega arith; encodable = s.encodable; answers = took_none x _ s.answers }
 
+pub does_ended : (f : Effect) {k : ℕ} {m : Machine} {j : List ℕ} {x : Answers} → Lent k m j x → is_some m.stop ≡ true → Does k (unless_ended f) m m j j x
+does_ended f {x = x} s e = record { ran = ran_ended f _ _ e; room = omega arith; encodable = s.encodable; answers = took_none x _ s.answers }
+
 -- a function that takes no answers, where some are lent
 pub takes_none : {f : Effect} {k n : ℕ} {m m' : Machine} {j j₀ j' : List ℕ} {a : List ℕ} →
     Lent n m j₀ (taking a) → Does k f m m' j j' none → Does k f m m' j j' (taking a)
@@ -104,9 +110,16 @@ takes_none s d = record { ran = d.ran; room = d.room; encodable = d.encodable; a
 pub beside : {f : Effect} {m m' : Machine} {j : List ℕ} → DoesWithoutJournal f m m' → Does 0 f m m' j j none
 beside d = record { ran = d.ran _; room = omega (arith, d.room); encodable = d.encodable; answers = d.answers }
 
--- of functions that are lent no journal: the same under another name of its effect, and nothing done
-pub alone_as : {f g : Effect} {m m' : Machine} → ((r : Run) → m ≡ machine_of r → f r ≡ g r) → DoesWithoutJournal f m m' → DoesWithoutJournal g m m'
+-- of functions that are lent no journal: the same under another name of its effect, nothing done, and another head
+pub alone_as : {f g : Effect} {m m' : Machine} → ((r : Run) → state_of m ≡ machine_of r → f r ≡ g r) → DoesWithoutJournal f m m' → DoesWithoutJournal g m m'
 alone_as same d = record { ran = λ j. ran_as same (d.ran j); room = d.room; encodable = d.encodable; answers = d.answers }
 
 pub alone_nothing : {m : Machine} → Encodable m.head → DoesWithoutJournal idle m m
 alone_nothing ok = record { ran = λ j. ran_idle _ j; room = omega arith; encodable = ok; answers = refl }
+
+pub alone_ended : (f : Effect) {m : Machine} → Encodable m.head → is_some m.stop ≡ true → DoesWithoutJournal (unless_ended f) m m
+alone_ended f ok e = record { ran = λ j. ran_ended f _ j e; room = omega arith; encodable = ok; answers = refl }
+
+pub alone_with_head : (f : Head → Head) {m : Machine} → Encodable (f m.head) → is_some m.stop ≡ false →
+    DoesWithoutJournal (unless_ended (λ (r : Run). with_head (f r.head) r)) m (record { head = f m.head; at = m.at; taken = m.taken; stop = m.stop })
+alone_with_head f ok e = record { ran = λ j. ran_with_head f _ j e; room = omega arith; encodable = ok; answers = refl }

@@ -1,11 +1,13 @@
 -- Effects that do nothing on a call that has ended.
 use Prim.Native.Nat.{ℕ}
 use mathlib.Core.Path.{◌≡◌, ap, sym, ◌∙◌}
+use mathlib.Core.Bool.{true}
 use mathlib.Core.List.{List}
+use Rattle.std.specs.Option.{is_some}
 use Rattle.journal.specs.declared.Machine.{Machine}
 use Rattle.journal.specs.Run.{Run, Effect, ◌▸◌, unless_ended, store, delay, measure}
 use Rattle.journal.specs.Machine.{Ran}
-use Rattle.journal.proofs.Reached.{unless_ended_ended, ran_as, ran_idle}
+use Rattle.journal.proofs.Reached.{unless_ended_ended, run_ended, ran_as, ran_idle}
 
 pub record Still (f : Effect) : Type 0 where
   pub stays : (r : Run) → (r.stop ≡ 0 → ⊥) → f r ≡ r
@@ -29,5 +31,5 @@ unfolding measure
 still_measure a = still_unless_ended _
 
 -- code that does nothing once the call has ended
-pub ran_still : {f : Effect} → Still f → (m : Machine) (j : List ℕ) → (m.stop ≡ 0 → ⊥) → Ran f m m j j
-ran_still {f} x m j e = ran_as (λ r q. sym (x.stays r (λ z. e (ap (λ (w : Machine). w.stop) q ∙ z)))) (ran_idle m j)
+pub ran_still : {f : Effect} → Still f → (m : Machine) (j : List ℕ) → is_some m.stop ≡ true → Ran f m m j j
+ran_still {f} x m j e = ran_as (λ r q. sym (x.stays r (run_ended m r e q))) (ran_idle m j)

@@ -8,12 +8,12 @@ use native.Mathlib.Omega.{arith}
 use lib.Dec.{eqb, leb}
 use lib.ListN.{length, take, drop, length-append, length-drop, drop_of_length-le}
 use lib.Seq.{drop-drop, take_all, take_at, drop_at}
-use Rattle.time.specs.declared.Reading.{Reading}
-use Rattle.time.specs.declared.Reading.TheVariants.{At, Unreadable}
+use Rattle.std.specs.Prelude.{Option, Some, None}
+use Rattle.time.specs.declared.Hertz.{Hertz}
 use Rattle.clock_read.specs.Hpsys.{hclk_of}
 use Rattle.journal.specs.declared.Machine.{Machine}
 use Rattle.journal.specs.Run.{Run, Effect, idle, ◌▸◌, unless_ended, ended, entry, with_entry, store, cycles, delayed, delay, Poll, ready_after, never_ready, poll, waited, measured, measure}
-use Rattle.journal.specs.Machine.{Reached, Ran}
+use Rattle.journal.specs.Machine.{State, Reached, Ran}
 
 -- a run with the entries `es` before its own
 abbrev pub framed : List ℕ → Run → Run
@@ -52,9 +52,9 @@ pub framed_delay : (us : ℕ) → Framed (delay us)
 unfolding delay
 framed_delay us = framed_unless_ended (record { appends = λ es r. (by (hclk_of r.head)).appends es r })
   where
-    by : (f : Reading) → Framed (delayed f us)
-    by (At f) = record { appends = (framed_wrote (entry 48 (cycles f.0 us))).appends }
-    by Unreadable = record { appends = λ es r. refl }
+    by : (f : Option Hertz) → Framed (delayed f us)
+    by (Some f) = record { appends = (framed_wrote (entry 48 (cycles f.0 us))).appends }
+    by None = record { appends = λ es r. refl }
 
 pub framed_measure : (a : List ℕ) → Framed (measure a)
 unfolding measure
@@ -86,7 +86,7 @@ module _ {f : Effect} {m m' : Machine} {j j' : List ℕ} (x : Framed f) (y : Ran
     whole = ap f (rw (append-nil es)) ∙ x.appends es own
 
     place : length es ≡ m.at
-    place = sym (ap (λ (w : Machine). w.at) at.machine)
+    place = sym (ap (λ (w : State). w.at) at.machine)
 
     rest : drop m.at j ≡ drop m.at j₀
     rest = rw (at.journal, drop_at es (drop (length es) j₀) m.at place, place)
@@ -95,11 +95,11 @@ module _ {f : Effect} {m m' : Machine} {j j' : List ℕ} (x : Framed f) (y : Ran
     before = rw (at.journal, take_at es (drop (length es) j₀) m.at place)
 
     part : Reached (f own) (drop m.at j) m' j'
-    part = y.does own (drop m.at j) (record { machine = ap (placed 0) at.machine; journal = refl })
+    part = y.does own (drop m.at j) (record { machine = ap (λ (w : State). record { head = w.head; at = 0; taken = w.taken; stop = w.stop }) at.machine; journal = refl })
 
     joined : Reached (framed es (f own)) j₀ (placed (m.at + m'.at) m') (take m.at j ++ j')
     joined = record {
-      machine = rw (part.machine, ← place) (simp length-append);
+      machine = ap (λ (w : State). record { head = w.head; at = m.at + w.at; taken = w.taken; stop = w.stop }) part.machine ∙ rw (← place) (simp length-append);
       journal = rw (before, part.journal, rest, drop-drop, ← place, length-append, append_assoc);
     }
 

@@ -8,8 +8,8 @@ use native.Mathlib.Decide.{dec_le}
 use lib.Dec.{eqb}
 use lib.ListN.{length, take, drop, set, length-append}
 use lib.Seq.{take_all, take-append-le}
-use Rattle.time.specs.declared.Reading.{Reading}
-use Rattle.time.specs.declared.Reading.TheVariants.{At, Unreadable}
+use Rattle.std.specs.Prelude.{Option, Some, None}
+use Rattle.time.specs.declared.Hertz.{Hertz}
 use Rattle.clock_read.specs.Hpsys.{hclk_of}
 use Rattle.head.specs.declared.Head.{Head}
 use Rattle.head.specs.Head.{stored}
@@ -62,12 +62,12 @@ module _ (P : List ℕ → Type 0) (l : List ℕ) where
   unfolding delay unless_ended
   moments_delay us r m = by (eqb r.stop 0) refl
     where
-      paused : (f : Reading) → hclk_of r.head ≡ f → Replayed l (delayed f us r) → Moments P l (delayed f us r)
-      paused (At f) e after = record {
+      paused : (f : Option Hertz) → hclk_of r.head ≡ f → Replayed l (delayed f us r) → Moments P l (delayed f us r)
+      paused (Some f) e after = record {
         each = more_each r.entries (entry 48 (cycles f.0 us)) m.each (subst P (sym after.registers) (moments_now r m));
         last = after;
       }
-      paused Unreadable e after = record { each = m.each; last = after }
+      paused None e after = record { each = m.each; last = after }
 
       by : (t : Bool) → eqb r.stop 0 ≡ t → Moments P l (cond t (delayed (hclk_of r.head) us r) r)
       by true e = paused (hclk_of r.head) refl (rw e at ((replays_delay us).keeps l r m.last))

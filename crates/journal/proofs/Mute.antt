@@ -5,8 +5,8 @@ use mathlib.Core.Bool.{Bool, true, false, cond}
 use mathlib.Core.List.{List, [], ◌∷◌, ◌++◌, append_assoc, append-nil}
 use native.Mathlib.Omega.{arith}
 use lib.Dec.{eqb}
-use Rattle.time.specs.declared.Reading.{Reading}
-use Rattle.time.specs.declared.Reading.TheVariants.{At, Unreadable}
+use Rattle.std.specs.Prelude.{Option, Some, None}
+use Rattle.time.specs.declared.Hertz.{Hertz}
 use Rattle.head.specs.declared.Head.{Head}
 use Rattle.clock_read.specs.Hpsys.{hclk_of}
 use Rattle.journal.specs.Run.{Run, Effect, begin, ◌▸◌, idle, unless_ended, halted, entry, with_entry, with_head, store, cycles, delayed, delay}
@@ -64,13 +64,13 @@ pub mute_delay : (us : ℕ) → Mute (delay us)
 unfolding delay
 mute_delay us = mute_unless_ended _ (λ r q. kept (hclk_of r.head) r q) (λ es t r. by (hclk_of r.head) es t r)
   where
-    kept : (h : Reading) (r : Run) → (delayed h us r).stop ≡ 36 → r.stop ≡ 36
-    kept (At f) r q = q
-    kept Unreadable r q = absurd (omega (arith, q))
+    kept : (h : Option Hertz) (r : Run) → (delayed h us r).stop ≡ 36 → r.stop ≡ 36
+    kept (Some f) r q = q
+    kept None r q = absurd (omega (arith, q))
 
-    by : (h : Reading) (es : List ℕ) (t : ℕ) (r : Run) → delayed h us (placed es t r) ≡ placed es t (delayed h us r)
-    by (At f) es t r = rw (append_assoc es r.entries (entry 48 (cycles f.0 us) ∷ []))
-    by Unreadable es t r = refl
+    by : (h : Option Hertz) (es : List ℕ) (t : ℕ) (r : Run) → delayed h us (placed es t r) ≡ placed es t (delayed h us r)
+    by (Some f) es t r = rw (append_assoc es r.entries (entry 48 (cycles f.0 us) ∷ []))
+    by None es t r = refl
 
 pub mute_halted : (n : ℕ) → (n ≡ 36 → ⊥) → Mute (halted n)
 unfolding halted

@@ -7,8 +7,8 @@ use native.Mathlib.Omega.{arith}
 use lib.Dec.{eqb, leb}
 use lib.ListN.{length, drop, set}
 use borrow.Author.Tests.{lt-ltb, le-ltb}
-use Rattle.time.specs.declared.Reading.{Reading}
-use Rattle.time.specs.declared.Reading.TheVariants.{At, Unreadable}
+use Rattle.std.specs.Prelude.{Option, Some, None}
+use Rattle.time.specs.declared.Hertz.{Hertz}
 use Rattle.head.specs.declared.Head.{Head}
 use Rattle.clock_read.specs.Hpsys.{hclk_of}
 use Rattle.journal.specs.Run.{Run, Effect, begin, idle, ◌▸◌, unless_ended, ended, entry, with_entry, store, cycles, delayed, delay}
@@ -70,9 +70,9 @@ pub replays_delay : (us : ℕ) → Replays (delay us)
 unfolding delay
 replays_delay us = replays_unless_ended (record { keeps = λ l r h. by (hclk_of r.head) l r h })
   where
-    by : (f : Reading) (l : List ℕ) (r : Run) → Replayed l r → Replayed l (delayed f us r)
-    by (At f) l r h = (replays_other 48 (cycles f.0 us) (omega arith)).keeps l r h
-    by Unreadable l r h = record { registers = h.registers }
+    by : (f : Option Hertz) (l : List ℕ) (r : Run) → Replayed l r → Replayed l (delayed f us r)
+    by (Some f) l r h = (replays_other 48 (cycles f.0 us) (omega arith)).keeps l r h
+    by None l r h = record { registers = h.registers }
 
 replays_waited : (kind : ℕ) (a : List ℕ) (q : Poll) → Replays (waited kind a q)
 replays_waited kind a (ready_after n) = record { keeps = λ l r h. record { registers = ((replays_other 49 (kind * 65536 + n) (omega arith)).keeps l r h).registers } }

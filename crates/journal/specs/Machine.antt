@@ -1,16 +1,28 @@
 -- The code's state of a running call, and what it means that code does an effect.
 use Rattle.std.specs.Prelude.{ℕ, ◌+◌, ◌≤◌, ◌≡◌, List, ◌++◌, length, drop}
+use Rattle.refusal.specs.Refusal.{number_or_zero}
+use Rattle.head.specs.declared.Head.{Head}
 use Rattle.head.specs.Encodable.{Encodable}
 use Rattle.journal.specs.declared.Machine.{Machine}
 use Rattle.journal.specs.Run.{Run, Effect}
 
+-- what a machine holds, its refusal by number
+pub record State : Type 0 where
+  pub head : Head
+  pub at : ℕ
+  pub taken : ℕ
+  pub stop : ℕ
+
+abbrev pub state_of : Machine → State
+state_of m = record { head = m.head; at = m.at; taken = m.taken; stop = number_or_zero m.stop }
+
 -- the machine of a run
-abbrev pub machine_of : Run → Machine
+abbrev pub machine_of : Run → State
 machine_of r = record { head = r.head; at = length r.entries; taken = r.taken; stop = r.stop }
 
 -- the machine `m` and the journal `j` are where the run `r` is; the journal held `j₀` before the call
 pub record Reached (r : Run) (j₀ : List ℕ) (m : Machine) (j : List ℕ) : Type 0 where
-  pub machine : m ≡ machine_of r
+  pub machine : state_of m ≡ machine_of r
   pub journal : j ≡ r.entries ++ drop (length r.entries) j₀
 
 -- from `m` and `j` the code comes to `m'` and `j'`, as the effect `f` says, wherever the run was

@@ -1,7 +1,6 @@
 -- A call on a head as it runs, and the three things that it can do: store, delay, wait.
-use Rattle.std.specs.Prelude.{ℕ, ◌+◌, ◌*◌, ◌/◌, ◌%◌, true, cond, List, [], ◌∷◌, ◌++◌, eqb, leb, ltb, length, drop, set}
-use Rattle.time.specs.declared.Reading.{Reading}
-use Rattle.time.specs.declared.Reading.TheVariants.{At, Unreadable}
+use Rattle.std.specs.Prelude.{ℕ, ◌+◌, ◌*◌, ◌/◌, ◌%◌, true, cond, List, [], ◌∷◌, ◌++◌, eqb, leb, ltb, length, drop, set, Option, Some, None}
+use Rattle.time.specs.declared.Hertz.{Hertz}
 use Rattle.head.specs.declared.Head.{Head}
 use Rattle.head.specs.Head.{with_ready, stored}
 use Rattle.clock_read.specs.Hpsys.{hclk_of}
@@ -64,9 +63,9 @@ abbrev pub cycles : ℕ → ℕ → ℕ
 cycles hz us = (hz * us + 999999) / 1000000
 
 -- "34 HCLK unreadable at a delay"
-abbrev pub delayed : Reading → ℕ → Effect
-delayed (At f) us r = with_entry (entry 48 (cycles f.0 us)) r
-delayed Unreadable us r = ended 34 r.taken r
+abbrev pub delayed : Option Hertz → ℕ → Effect
+delayed (Some f) us r = with_entry (entry 48 (cycles f.0 us)) r
+delayed None us r = ended 34 r.taken r
 
 unfoldable pub delay : ℕ → Effect
 delay us = unless_ended (λ (r : Run). delayed (hclk_of r.head) us r)

@@ -1,12 +1,11 @@
 -- Tests 4 to 14 of a plan: a source that the plan does not have, a frequency outside its limits, each in Hz.
-use Rattle.std.specs.Prelude.{ℕ, ◌%◌, Bool, true, false, cond, not, ◌&&◌, eqb, ltb}
-use Rattle.clock.specs.declared.MaybeDll.{MaybeDll}
-use Rattle.clock.specs.declared.MaybeDll.TheVariants.{Absent, Present}
+use Rattle.std.specs.Prelude.{ℕ, ◌%◌, Bool, true, false, cond, not, ◌&&◌, eqb, ltb, Option, None, Some}
+use Rattle.clock.specs.declared.Dll.{Dll}
 use Rattle.plan.specs.declared.Plan.{Plan}
 
-abbrev pub is_absent : MaybeDll → Bool
-is_absent Absent = true
-is_absent (Present d) = false
+abbrev pub is_absent : Option Dll → Bool
+is_absent None = true
+is_absent (Some d) = false
 
 -- "4 DLL1 core without DLL1"
 unfoldable pub core_on_absent_dll1 : Plan → Bool

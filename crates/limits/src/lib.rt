@@ -16,21 +16,14 @@ const DLL1: u8 = 3;
 pub fn usb_not_60(usb: bool, source: Hertz) -> bool
     ensures { result ≡ usb_not60 usb source.0 }
 {
-    if !usb {
-        return false;
-    }
-    let hertz = source.0;
-    hertz % 60_000_000 != 0
+    usb && source.0 % 60_000_000 != 0
 }
 
 // 10
 pub fn dll1_core_too_slow(sys: u8, core: Hertz) -> bool
     ensures { result ≡ dll1_core_too_slow sys core.0 }
 {
-    if sys != DLL1 {
-        return false;
-    }
-    core.0 < 24_000_000
+    sys == DLL1 && core.0 < 24_000_000
 }
 
 // 11

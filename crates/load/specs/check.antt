@@ -1,5 +1,5 @@
 -- The load check.
-use Rattle.std.specs.Prelude.{ℕ, ◌+◌, ◌/◌, ◌%◌, cond, not, List, [], ◌∷◌, eqb, ltb, length}
+use Rattle.std.specs.Prelude.{ℕ, ◌+◌, ◌/◌, ◌%◌, cond, not, List, [], ◌∷◌, eqb, ltb, length, Result, Ok, Err}
 use Rattle.record.specs.Refusals.{refuse, first_of}
 use Rattle.record.specs.Items.{items}
 use Rattle.layout.specs.Layout.{most_tasks}
@@ -7,7 +7,6 @@ use Rattle.task.specs.declared.Task.{Task}
 use Rattle.task.specs.Task.{all_ok, distinct}
 use Rattle.task.specs.bytes.{task_in}
 use Rattle.load.specs.Load.{load_of}
-use Rattle.load.specs.declared.check.Checked.{Checked}
 
 -- "a list of task records lent by the caller": "nine each"
 abbrev pub listed_size : ℕ
@@ -26,9 +25,10 @@ check_refusal b =
     refuse 40 (not (distinct (listed_tasks b))) ∷ [])
 
 -- "The load check on such bytes answers the load, or" the refusal
-unfoldable pub load_check : List ℕ → Checked
-load_check b = cond (eqb (check_refusal b) 0) (record { refusal = 0; load = load_of (listed_tasks b) }) (record { refusal = check_refusal b; load = 0 })
+unfoldable pub load_check : List ℕ → Result ℕ ℕ
+load_check b = cond (eqb (check_refusal b) 0) (Ok (load_of (listed_tasks b))) (Err (check_refusal b))
 
 -- "It gets a 64-bit number: .., the top bit set on a refusal of the load check."
-unfoldable pub check_word : Checked → ℕ
-check_word c = cond (eqb c.refusal 0) c.load (9223372036854775808 + c.refusal)
+abbrev pub check_word : Result ℕ ℕ → ℕ
+check_word (Ok load) = load
+check_word (Err n) = 9223372036854775808 + n

@@ -13,9 +13,9 @@ use time::Megahertz;
 fn set<R: Print>(rt: &R, buffer: &mut [u8], freq: Megahertz) -> io::Result<()> {
     let mut journal = [0u32; call::JOURNAL_WORDS];
     let answer = lpsys_request::frequency::config_lpsys_hclk_mhz(buffer, freq, &mut journal);
-    let entries = answer.entries;
+    let entries = call::answer::entries(answer);
     report::steps(rt, &journal[..entries])?;
-    report::result(rt, answer.refusal, readings::hclk::lpsys_hclk(buffer))
+    report::result(rt, answer, readings::hclk::lpsys_hclk(buffer))
 }
 
 // Whether the first argument is given.
@@ -28,6 +28,8 @@ fn main(rt: HostRuntime) -> io::Result<()> {
         return report::usage(&rt);
     }
     let mut buffer = [0u8; 4096];
-    let count = text::file::read(&rt, 1, &mut buffer);
-    set(&rt, &mut buffer[..count], request::read(&rt))
+    let count = text::file::read(&rt, 1, &mut buffer).unwrap_or(0);
+    // A request that is none is refused as 0 is.
+    let request = request::read(&rt).unwrap_or(Megahertz(0));
+    set(&rt, &mut buffer[..count], request)
 }

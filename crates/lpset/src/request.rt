@@ -3,10 +3,10 @@ use digits::request::decimal;
 use std::env::Env;
 use time::Megahertz;
 
-// The request, 0 where it is missing. The text has room for the longest argument that Linux hands
-// to a program.
-pub fn read<R: Env>(rt: &R) -> Megahertz {
+// The request, none where it is missing or no number. The text has room for the longest argument
+// that Linux hands to a program.
+pub fn read<R: Env>(rt: &R) -> Option<Megahertz> {
     let mut text = [0u8; 131072];
-    let length = rt.arg(2, &mut text).unwrap_or(0);
-    Megahertz(decimal(&text[..length]))
+    let length = rt.arg(2, &mut text).ok()?;
+    decimal(&text[..length]).map(Megahertz)
 }

@@ -2,8 +2,8 @@
 use Prim.Native.Nat.{ℕ}
 use native.Mathlib.Omega.{arith}
 use lib.Dec.{ltb}
-use Rattle.time.specs.declared.Reading.{Reading}
-use Rattle.time.specs.declared.Reading.TheVariants.{At, Unreadable}
+use Rattle.std.specs.Prelude.{Option, Some, None}
+use Rattle.time.specs.declared.Hertz.{Hertz}
 use Rattle.time.specs.Frequency.{hz_or}
 use Rattle.head.specs.declared.Head.{Head}
 use Rattle.clock_read.specs.lpsys.{lpsys_hclk_of}
@@ -44,9 +44,9 @@ pub mute_refuse_unread : Mute refuse_unread
 unfolding refuse_unread
 mute_refuse_unread = mute_on_head (λ (h : Head). unless_read (lpsys_hclk_of h)) (λ h. by (lpsys_hclk_of h))
   where
-    by : (f : Reading) → Mute (unless_read f)
-    by (At f) = mute_idle
-    by Unreadable = mute_halted 43 (λ q. omega (arith, q))
+    by : (f : Option Hertz) → Mute (unless_read f)
+    by (Some f) = mute_idle
+    by None = mute_halted 43 (λ q. omega (arith, q))
 
 pub mute_slow_down : Mute slow_down
 unfolding slow_down

@@ -1,18 +1,16 @@
 -- The modes and the divider of an LPSYS request, rcc/clock_lpsys.rs, `config_lpsys_hclk_mhz`.
-use Rattle.std.specs.Prelude.{ℕ, ◌*◌, ◌/◌, cond, leb}
+use Rattle.std.specs.Prelude.{ℕ, ◌*◌, ◌/◌, cond, leb, Option, Some, None}
 use Rattle.time.specs.Frequency.{megahertz, hz_or}
 use Rattle.head.specs.declared.Head.{Head}
 use Rattle.clock_read.specs.lpsys.{lpsys_sys_of, lpsys_hclk_of}
 use Rattle.dvfs.specs.declared.lpsys.LpsysDvfsMode.{LpsysDvfsMode}
 use Rattle.dvfs.specs.declared.lpsys.LpsysDvfsMode.TheVariants.{D, S}
-use Rattle.dvfs.specs.declared.lpsys.LpsysModeFound.{LpsysModeFound}
-use Rattle.dvfs.specs.declared.lpsys.LpsysModeFound.TheVariants.{Mode, OutOfRange}
 use Rattle.dvfs.specs.lpsys.{lpsys_mode_of}
 
 -- `unwrap_or`: the mode that is found, or `m`
-abbrev pub mode_or : LpsysDvfsMode → LpsysModeFound → LpsysDvfsMode
-mode_or m (Mode n) = n
-mode_or m OutOfRange = m
+abbrev pub mode_or : LpsysDvfsMode → Option LpsysDvfsMode → LpsysDvfsMode
+mode_or m (Some n) = n
+mode_or m None = m
 
 -- the divider for a request of `f` whole MHz: the source's clock over it, rounded down, or 0 where it is not below the source's
 unfoldable pub divider_for : ℕ → Head → ℕ

@@ -1,7 +1,6 @@
 -- `ensure_safe_lcpu_frequency` of rcc/clock_lpsys.rs, as an effect on a running call, and its refusal as another.
-use Rattle.std.specs.Prelude.{cond, ltb}
-use Rattle.time.specs.declared.Reading.{Reading}
-use Rattle.time.specs.declared.Reading.TheVariants.{At, Unreadable}
+use Rattle.std.specs.Prelude.{cond, ltb, Option, Some, None}
+use Rattle.time.specs.declared.Hertz.{Hertz}
 use Rattle.time.specs.Frequency.{hz_or}
 use Rattle.head.specs.declared.Head.{Head}
 use Rattle.clock_read.specs.lpsys.{lpsys_hclk_of}
@@ -9,9 +8,9 @@ use Rattle.journal.specs.Run.{Effect, idle, halted}
 use Rattle.lpsys_request.specs.Request.{request}
 
 -- "43 `ensure_safe_lcpu_frequency` with LPSYS HCLK unreadable", in the middle of a call
-abbrev pub unless_read : Reading → Effect
-unless_read (At f) = idle
-unless_read Unreadable = halted 43
+abbrev pub unless_read : Option Hertz → Effect
+unless_read (Some f) = idle
+unless_read None = halted 43
 
 unfoldable pub refuse_unread : Effect
 refuse_unread r = unless_read (lpsys_hclk_of r.head) r

@@ -4,12 +4,12 @@ ghost use Rattle.lpsys_request.specs.hdiv.{set_hdiv};
 
 use journal::Machine;
 
-pub fn set_hdiv(m: Machine, journal: &mut [u32], hdiv: u8) -> Machine
-    requires { Lent 1 m journal.old none }
-    ensures { Does 1 (set_hdiv hdiv) m result journal.old journal.new none }
+#[tactic(auto, using(crate::proofs::hdiv::Fits::hdiv_fits))]
+pub fn set_hdiv(m: &mut Machine, journal: &mut [u32], hdiv: u8)
+    requires { Lent 1 m.old journal.old none }
+    ensures { Does 1 (set_hdiv hdiv) m.old m.new journal.old journal.new none }
 {
-    let head = m.head;
-    let old = head.regs[register::LPSYS_CFGR];
-    let word = register::word(hdiv as u32, register::b(old), register::c(old));
-    m.store(journal, register::LPSYS_CFGR, word)
+    let old = m.head.regs[register::LPSYS_CFGR];
+    let word = register::word(u32::from(hdiv), register::b(old), register::c(old));
+    m.store(journal, register::LPSYS_CFGR, word);
 }

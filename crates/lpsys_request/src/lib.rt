@@ -13,16 +13,15 @@ ghost use Rattle.lpsys_request.specs.Request.{request};
 use journal::Machine;
 use time::Megahertz;
 
-pub fn request(m: Machine, journal: &mut [u32], freq: Megahertz) -> Machine
-    requires lent { Lent 6 m journal.old none }
+pub fn request(m: &mut Machine, journal: &mut [u32], freq: Megahertz)
+    requires lent { Lent 6 m.old journal.old none }
     requires le_freq { (1 ≤ freq.0) × (freq.0 ≤ 48) }
-    ensures { Does 6 (request freq.0) m result journal.old journal.new none }
+    ensures { Does 6 (request freq.0) m.old m.new journal.old journal.new none }
 {
-    let head = m.head;
-    let current = modes::present_mode(head);
+    let current = modes::present_mode(&m.head);
     let target = modes::request_mode(freq);
-    let hdiv = modes::divider_for(freq, head);
-    let m = dvfs_lpsys::config_lpsys_dvfs_first(m, journal, current, target);
-    let m = hdiv::set_hdiv(m, journal, hdiv);
-    dvfs_lpsys::config_lpsys_dvfs_second(m, journal, current, target)
+    let hdiv = modes::divider_for(freq, &m.head);
+    dvfs_lpsys::config_lpsys_dvfs_first(m, journal, current, target);
+    hdiv::set_hdiv(m, journal, hdiv);
+    dvfs_lpsys::config_lpsys_dvfs_second(m, journal, current, target);
 }

@@ -1,43 +1,35 @@
 // What an LPSYS request comes to on a head: the mode before it, its own mode, its divider. Nothing is stored.
 ghost use Rattle.std.specs.Prelude.{◌≡◌, ◌≤◌};
-ghost use Rattle.lpsys_request.specs.modes.{mode_or, divider_for, present_mode, request_mode};
+ghost use Rattle.lpsys_request.specs.modes.{divider_for, present_mode, request_mode};
 
-use dvfs::lpsys::{LpsysDvfsMode, LpsysModeFound};
+use dvfs::lpsys::LpsysDvfsMode;
 use head::Head;
 use time::{Hertz, Megahertz};
 
-fn mode_or(found: LpsysModeFound, other: LpsysDvfsMode) -> LpsysDvfsMode
-    ensures { result ≡ mode_or other found }
-{
-    let LpsysModeFound::Mode(mode) = found else {
-        return other;
-    };
-    mode
-}
-
-pub fn present_mode(h: Head) -> LpsysDvfsMode
-    ensures { result ≡ present_mode h }
+#[tactic(auto, unfolding(crate::specs::modes::present_mode))]
+pub fn present_mode(h: &Head) -> LpsysDvfsMode
+    ensures { result ≡ present_mode h.now }
 {
     let f = clock_read::lpsys::get_lpsys_hclk_freq(h).unwrap_or(Hertz(48_000_000));
-    mode_or(LpsysDvfsMode::from_hertz(f), LpsysDvfsMode::S)
+    LpsysDvfsMode::from_hertz(f).unwrap_or(LpsysDvfsMode::S)
 }
 
+#[tactic(auto, unfolding(crate::specs::modes::request_mode))]
 pub fn request_mode(freq: Megahertz) -> LpsysDvfsMode
     ensures { result ≡ request_mode freq.0 }
 {
-    mode_or(LpsysDvfsMode::from_frequency(freq), LpsysDvfsMode::D)
+    LpsysDvfsMode::from_frequency(freq).unwrap_or(LpsysDvfsMode::D)
 }
 
-pub fn divider_for(freq: Megahertz, h: Head) -> u8
+#[tactic(auto, unfolding(crate::specs::modes::divider_for))]
+pub fn divider_for(freq: Megahertz, h: &Head) -> u8
     requires { (1 ≤ freq.0) × (freq.0 ≤ 48) }
-    ensures { result ≡ divider_for freq.0 h }
+    ensures { result ≡ divider_for freq.0 h.now }
 {
     let sysclk = clock_read::lpsys::get_lpsys_sysclk_freq(h).unwrap_or(Hertz(48_000_000));
-    let hertz = sysclk.0;
-    let mhz = freq.0;
-    let target = mhz * 1_000_000;
-    if hertz <= target {
+    let target = freq.0 * 1_000_000;
+    if sysclk.0 <= target {
         return 0;
     }
-    (hertz / target) as u8
+    (sysclk.0 / target) as u8
 }

@@ -4,30 +4,30 @@ ghost use Rattle.journal.specs.Machine.{Lent, Does, DoesWithoutJournal, none};
 ghost use Rattle.lpsys_request.specs.slow.{refuse_unread, slow_down};
 
 use journal::Machine;
-use time::{Hertz, Megahertz, Reading};
+use refusal::Refusal;
+use time::{Hertz, Megahertz};
+
+// The most that LPSYS is left at, in Hz.
+const LIMIT: u32 = 24_000_000;
 
 // 43 where LPSYS HCLK does not read.
-pub fn refuse_unread(m: Machine) -> Machine
-    requires { Encodable m.head }
-    ensures { DoesWithoutJournal refuse_unread m result }
+pub fn refuse_unread(m: &mut Machine)
+    requires { Encodable m.old.head }
+    ensures { DoesWithoutJournal refuse_unread m.old m.new }
 {
-    let head = m.head;
-    let Reading::At(_) = clock_read::lpsys::get_lpsys_hclk_freq(head) else {
-        return m.refuse(43);
-    };
-    m
+    match clock_read::lpsys::get_lpsys_hclk_freq(&m.head) {
+        Some(_) => {}
+        None => m.refuse(Refusal::LpsysHclkUnreadable),
+    }
 }
 
 // A request of 24 MHz where LPSYS is faster.
-pub fn slow_down(m: Machine, journal: &mut [u32]) -> Machine
-    requires { Lent 6 m journal.old none }
-    ensures { Does 6 slow_down m result journal.old journal.new none }
+pub fn slow_down(m: &mut Machine, journal: &mut [u32])
+    requires { Lent 6 m.old journal.old none }
+    ensures { Does 6 slow_down m.old m.new journal.old journal.new none }
 {
-    let head = m.head;
-    let f = clock_read::lpsys::get_lpsys_hclk_freq(head).unwrap_or(Hertz(0));
-    let hertz = f.0;
-    if 24_000_000 < hertz {
-        return crate::request(m, journal, Megahertz(24));
+    let f = clock_read::lpsys::get_lpsys_hclk_freq(&m.head).unwrap_or(Hertz(0));
+    if LIMIT < f.0 {
+        crate::request(m, journal, Megahertz(24));
     }
-    m
 }

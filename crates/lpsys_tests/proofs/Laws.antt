@@ -7,7 +7,7 @@ use lib.Dec.{eqb, ltb}
 use borrow.Author.Tests.{eqb-false, ltb-false}
 use Rattle.record.proofs.Bytes.{or_left, or_right}
 use Rattle.record.proofs.Refusals.{not_refused}
-use Rattle.lpsys_tests.specs.Tests.{out_of_range, request_refusal, div_refusal, source_refusal}
+use Rattle.lpsys_tests.specs.Tests.{out_of_range, request_refusal, div_refusal}
 
 pub request_range : (f : ℕ) → request_refusal f ≡ 0 → (1 ≤ f) × (f ≤ 48)
 request_range f e =
@@ -18,6 +18,3 @@ pub div_range : (pdiv1 pdiv2 : ℕ) → div_refusal pdiv1 pdiv2 ≡ 0 → (pdiv1
 div_range pdiv1 pdiv2 e =
     let fits = not_refused 2 (ltb 7 pdiv1 || ltb 7 pdiv2) e in
     (ltb-false 7 pdiv1 (or_left (ltb 7 pdiv1) (ltb 7 pdiv2) fits), ltb-false 7 pdiv2 (or_right (ltb 7 pdiv1) (ltb 7 pdiv2) fits))
-
-pub source_range : (source : ℕ) → source_refusal source ≡ 0 → source ≤ 1
-source_range source e = ltb-false 1 source (not_refused 2 _ e)

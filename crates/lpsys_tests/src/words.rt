@@ -5,11 +5,11 @@ ghost use Rattle.register.specs.Word.{word_of};
 pub fn div_word(hdiv: u8, pdiv1: u8, pdiv2: u8) -> u32
     ensures { result ≡ word_of hdiv pdiv1 pdiv2 }
 {
-    register::word(hdiv as u32, pdiv1 as u32, pdiv2 as u32)
+    register::word(u32::from(hdiv), u32::from(pdiv1), u32::from(pdiv2))
 }
 
 pub fn mac_word(macdiv: u8, macfreq: u8) -> u32
     ensures { result ≡ word_of 0 macdiv macfreq }
 {
-    register::word(0, macdiv as u32, macfreq as u32)
+    register::word(0, u32::from(macdiv), u32::from(macfreq))
 }

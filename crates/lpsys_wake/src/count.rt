@@ -5,40 +5,20 @@ ghost use Rattle.lpsys_wake.specs.count.{count_up, count_down};
 
 use journal::Machine;
 
-pub fn count_up(m: Machine) -> Machine
-    requires { Encodable m.head }
-    ensures { DoesWithoutJournal count_up m result }
+pub fn count_up(m: &mut Machine)
+    requires { Encodable m.old.head }
+    ensures { DoesWithoutJournal count_up m.old m.new }
 {
-    let ended = m.stop;
-    if ended != 0 {
-        return m;
-    }
-    let mut head = m.head;
-    let count = head.wake_count;
-    head.wake_count = ((count as u32 + 1) % 256) as u8;
-    Machine {
-        head,
-        at: m.at,
-        taken: m.taken,
-        stop: 0,
+    if m.stop.is_none() {
+        m.head.wake_count = m.head.wake_count.wrapping_add(1);
     }
 }
 
-pub fn count_down(m: Machine) -> Machine
-    requires { Encodable m.head }
-    ensures { DoesWithoutJournal count_down m result }
+pub fn count_down(m: &mut Machine)
+    requires { Encodable m.old.head }
+    ensures { DoesWithoutJournal count_down m.old m.new }
 {
-    let stop = m.stop;
-    if stop != 0 {
-        return m;
-    }
-    let mut head = m.head;
-    let count = head.wake_count;
-    head.wake_count = ((count as u32 + 255) % 256) as u8;
-    Machine {
-        head,
-        at: m.at,
-        taken: m.taken,
-        stop: 0,
+    if m.stop.is_none() {
+        m.head.wake_count = m.head.wake_count.wrapping_sub(1);
     }
 }

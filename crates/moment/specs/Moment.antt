@@ -5,7 +5,7 @@ use Rattle.register.specs.Codes.{fits_register}
 use Rattle.head.specs.declared.Head.{Head}
 use Rattle.head.specs.Head.{with_registers}
 use Rattle.journal.specs.Run.{replayed}
-use Rattle.call.specs.Call.{Result, head_call}
+use Rattle.call.specs.Call.{Left, head_call}
 
 -- a store of a value within the codes of one of "registers 1 to 34", a delay, number 48, or a wait, number 49
 abbrev pub is_of : ℕ → ℕ → Bool
@@ -24,5 +24,5 @@ abbrev pub with_stores : List ℕ → Head → Head
 with_stores es h = with_registers (replayed h.regs es) h
 
 -- the head's 1 to 3, then "3 a byte outside its codes" of an entry
-unfoldable pub moment : List ℕ → List ℕ → Result
+unfoldable pub moment : List ℕ → List ℕ → Left
 moment es b = head_call (refuse 3 (not (are_entries es)) ∷ []) (with_stores es) b

@@ -22,34 +22,19 @@ pub fn value(entry: u32) -> u32
 }
 
 // Whether a word is a delay, a wait, or a store of what its register may hold.
+#[tactic(auto, unfolding(crate::specs::Moment::is_entry))]
 fn is_entry(word: u32) -> bool
     ensures { result ≡ is_entry word }
 {
-    let n = number(word);
-    if n == DELAY {
-        return true;
+    match number(word) {
+        DELAY | WAIT => true,
+        n @ 1..=34 => register::bytes::codes::fits(n as usize, value(word)),
+        _ => false,
     }
-    if n == WAIT {
-        return true;
-    }
-    if n == 0 {
-        return false;
-    }
-    if 35 <= n {
-        return false;
-    }
-    register::bytes::codes::fits(n as usize, value(word))
 }
 
 pub fn are_entries(words: &[u32]) -> bool
     ensures { result ≡ are_entries words.now }
 {
-    let mut i = 0;
-    while i < words.len() {
-        if !is_entry(words[i]) {
-            return false;
-        }
-        i += 1;
-    }
-    true
+    words.iter().all(|word| is_entry(*word))
 }

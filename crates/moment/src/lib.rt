@@ -8,21 +8,20 @@ ghost use Rattle.journal.specs.Run.{replayed};
 ghost use Rattle.call.specs.Call.{Answers};
 ghost use Rattle.moment.specs.Moment.{with_stores, moment};
 
-use call::Answer;
+use call::{Answer, Refused};
 use head::Head;
+use refusal::Refusal;
 
 // The registers with the stores of entries put in, one after the other; delays and waits change nothing.
 fn replay(regs: [u32; 35], entries: &[u32]) -> [u32; 35]
     ensures { result ≡ replayed regs entries.now }
 {
     let mut regs = regs;
-    let mut i = 0;
-    while i < entries.len() {
-        let n = entry::number(entries[i]) as usize;
+    for entry in entries {
+        let n = entry::number(*entry) as usize;
         if n < 35 {
-            regs[n] = entry::value(entries[i]);
+            regs[n] = entry::value(*entry);
         }
-        i += 1;
     }
     regs
 }
@@ -31,9 +30,7 @@ fn with_stores(head: Head, entries: &[u32]) -> Head
     ensures { result ≡ with_stores entries.now head }
 {
     let mut head = head;
-    let regs = head.regs;
-    let stored = replay(regs, entries);
-    head.regs = stored;
+    head.regs = replay(head.regs, entries);
     head
 }
 
@@ -41,14 +38,10 @@ fn with_stores(head: Head, entries: &[u32]) -> Head
 pub fn put(buffer: &mut [u8], entries: &[u32]) -> Answer
     ensures { Answers (moment entries.now buffer.old) result buffer.new [] }
 {
-    let admitted = call::admit_head(buffer);
-    if admitted.refusal != 0 {
-        return Answer::refused(admitted.refusal);
-    }
+    let mut m = call::admit_head(buffer)?;
     if !entry::are_entries(entries) {
-        return Answer::refused(3);
+        return Err(Refused::from(Refusal::Code));
     }
-    let head = admitted.head;
-    let m = call::start(with_stores(head, entries));
-    call::finish(m, 0, buffer)
+    m.head = with_stores(m.head, entries);
+    call::finish(&m, 0, buffer)
 }

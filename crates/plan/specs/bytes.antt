@@ -1,10 +1,8 @@
 -- The plan record of document 01, as bytes and as a value.
-use Rattle.std.specs.Prelude.{ℕ, List, [], ◌∷◌, cond, eqb, get_or}
+use Rattle.std.specs.Prelude.{ℕ, List, [], ◌∷◌, cond, eqb, get_or, Result, Ok, Err}
 use Rattle.plan.specs.declared.Plan.{Plan}
 use Rattle.plan.specs.codes.{dll_of}
 unfoldable pub use Rattle.plan.specs.tests.{record_refusal}
-use Rattle.plan.specs.declared.bytes.Decoded.{Decoded}
-use Rattle.plan.specs.declared.bytes.Decoded.TheVariants.{Read, Unread}
 
 -- the fields of a plan record in their order
 unfoldable pub plan_of : List ℕ → Plan
@@ -24,9 +22,9 @@ plan_of b = record {
   mpi2sel = get_or b 19 0;
 }
 
--- what a slice of bytes decodes to
-unfoldable pub decoded : List ℕ → Decoded
-decoded b = cond (eqb (record_refusal b) 0) (Read (plan_of b)) (Unread (record_refusal b))
+-- what a slice of bytes decodes to: a plan, or the number of its refusal
+unfoldable pub decoded : List ℕ → Result Plan ℕ
+decoded b = cond (eqb (record_refusal b) 0) (Ok (plan_of b)) (Err (record_refusal b))
 
 -- "The default plan, hex: 00 12 01 03 01 01 06 01 09 00 01 0B 00 01 01 01 00 01 00 02."
 abbrev pub default_record : List ℕ

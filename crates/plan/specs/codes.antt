@@ -1,8 +1,7 @@
 -- The codes of the bytes of a plan record of document 01.
-use Rattle.std.specs.Prelude.{ℕ, List, Bool, cond, ◌&&◌, ◌||◌, eqb, get_or, drop}
+use Rattle.std.specs.Prelude.{ℕ, List, Bool, cond, ◌&&◌, ◌||◌, eqb, get_or, drop, Option, None, Some}
 use Rattle.record.specs.Bytes.{is_within}
-use Rattle.clock.specs.declared.MaybeDll.{MaybeDll}
-use Rattle.clock.specs.declared.MaybeDll.TheVariants.{Absent, Present}
+use Rattle.clock.specs.declared.Dll.{Dll}
 use Rattle.plan.specs.Code.{largest_of_plan}
 
 -- "An absent DLL has stage and half 0."
@@ -17,5 +16,5 @@ coded b =
     && dll_bytes_legal (get_or b 10 0) (get_or b 11 0) (get_or b 12 0)
 
 -- a DLL's three bytes as a value
-unfoldable pub dll_of : ℕ → ℕ → ℕ → MaybeDll
-dll_of present stage half = cond (eqb present 1) (Present (record { stage = stage; half = eqb half 1 })) Absent
+unfoldable pub dll_of : ℕ → ℕ → ℕ → Option Dll
+dll_of present stage half = cond (eqb present 1) (Some (record { stage = stage; half = eqb half 1 })) None

@@ -1,18 +1,12 @@
 // The plan record, as bytes and as a value.
 ghost use Rattle.std.specs.Prelude.{◌≡◌, length};
+ghost use Rattle.refusal.specs.Refusal.{numbered};
 ghost use Rattle.plan.specs.Plan.{encoded};
 ghost use Rattle.plan.specs.bytes.{plan_of, decoded, default_record, sysclk_record};
 
 use crate::Plan;
-use clock::{Dll, MaybeDll};
-
-// What the bytes of a record hold.
-#[derive(Clone, Copy)]
-pub enum Decoded {
-    Read(Plan),
-    // Refusal 1, 2 or 3.
-    Unread(u8),
-}
+use clock::Dll;
+use refusal::Refusal;
 
 // The fields of a record of 20 bytes.
 pub fn fields(bytes: &[u8]) -> Plan
@@ -37,22 +31,17 @@ pub fn fields(bytes: &[u8]) -> Plan
 }
 
 // The plan of a record, or refusal 1, 2 or 3.
-pub fn decode(bytes: &[u8]) -> Decoded
-    ensures { result ≡ decoded bytes.now }
+pub fn decode(bytes: &[u8]) -> Result<Plan, Refusal>
+    ensures { numbered result ≡ decoded bytes.now }
 {
-    let refusal = crate::tests::refusal(bytes);
-    if refusal != 0 {
-        return Decoded::Unread(refusal);
-    }
-    Decoded::Read(fields(bytes))
+    crate::tests::test(bytes)?;
+    Ok(fields(bytes))
 }
 
 // The record of a plan. No call gives one; `decode` and it are proved to undo each other.
 pub fn encode(p: Plan) -> [u8; 20]
     ensures { result ≡ encoded p }
 {
-    let dll1 = p.dll1;
-    let dll2 = p.dll2;
     [
         0,
         18,
@@ -61,14 +50,14 @@ pub fn encode(p: Plan) -> [u8; 20]
         p.hdiv,
         p.pdiv1,
         p.pdiv2,
-        crate::codes::present(dll1),
-        crate::codes::stage(dll1),
-        crate::codes::half(dll1),
-        crate::codes::present(dll2),
-        crate::codes::stage(dll2),
-        crate::codes::half(dll2),
-        crate::codes::flag(p.hrc48_calibrate),
-        crate::codes::flag(p.usb),
+        crate::codes::present(p.dll1),
+        crate::codes::stage(p.dll1),
+        crate::codes::half(p.dll1),
+        crate::codes::present(p.dll2),
+        crate::codes::stage(p.dll2),
+        crate::codes::half(p.dll2),
+        u8::from(p.hrc48_calibrate),
+        u8::from(p.usb),
         p.wdtsel,
         p.usbsel,
         p.perisel,
@@ -86,11 +75,11 @@ pub fn new() -> Plan
         hdiv: 1,
         pdiv1: 1,
         pdiv2: 6,
-        dll1: MaybeDll::Present(Dll {
+        dll1: Some(Dll {
             stage: 9,
             half: false,
         }),
-        dll2: MaybeDll::Present(Dll {
+        dll2: Some(Dll {
             stage: 11,
             half: false,
         }),
@@ -113,8 +102,8 @@ pub fn sysclk() -> Plan
         hdiv: 1,
         pdiv1: 0,
         pdiv2: 0,
-        dll1: MaybeDll::Absent,
-        dll2: MaybeDll::Absent,
+        dll1: None,
+        dll2: None,
         hrc48_calibrate: false,
         usb: false,
         wdtsel: 1,

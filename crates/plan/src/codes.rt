@@ -1,10 +1,9 @@
 // The codes of a plan record's bytes.
 ghost use Rattle.std.specs.Prelude.{◌≡◌, length};
-ghost use Rattle.record.specs.Bytes.{bit};
 ghost use Rattle.plan.specs.Code.{present_of, stage_of, half_of};
 ghost use Rattle.plan.specs.codes.{dll_bytes_legal, coded, dll_of};
 
-use clock::{Dll, MaybeDll};
+use clock::Dll;
 
 // The largest value of each of the 17 bytes after the version.
 pub const LARGEST: [u8; 17] = [3, 255, 7, 7, 1, 15, 1, 1, 15, 1, 1, 1, 1, 1, 1, 2, 2];
@@ -13,13 +12,7 @@ pub const LARGEST: [u8; 17] = [3, 255, 7, 7, 1, 15, 1, 1, 15, 1, 1, 1, 1, 1, 1, 
 fn dll_bytes_legal(present: u8, stage: u8, half: u8) -> bool
     ensures { result ≡ dll_bytes_legal present stage half }
 {
-    if present == 1 {
-        return true;
-    }
-    if stage == 0 {
-        return half == 0;
-    }
-    false
+    present == 1 || (stage == 0 && half == 0)
 }
 
 // Whether the 17 bytes after the version lie within their codes.
@@ -27,58 +20,35 @@ pub fn is_coded(bytes: &[u8]) -> bool
     requires { length bytes.now ≡ 20 }
     ensures { result ≡ coded bytes.now }
 {
-    if !record::within(&bytes[3..], &LARGEST) {
-        return false;
-    }
-    if !dll_bytes_legal(bytes[7], bytes[8], bytes[9]) {
-        return false;
-    }
-    dll_bytes_legal(bytes[10], bytes[11], bytes[12])
+    record::within(&bytes[3..], &LARGEST)
+        && dll_bytes_legal(bytes[7], bytes[8], bytes[9])
+        && dll_bytes_legal(bytes[10], bytes[11], bytes[12])
 }
 
 // A DLL of its three bytes.
-pub fn dll(present: u8, stage: u8, half: u8) -> MaybeDll
+pub fn dll(present: u8, stage: u8, half: u8) -> Option<Dll>
     ensures { result ≡ dll_of present stage half }
 {
-    if present == 1 {
-        MaybeDll::Present(Dll {
-            stage,
-            half: half == 1,
-        })
-    } else {
-        MaybeDll::Absent
-    }
+    (present == 1).then_some(Dll {
+        stage,
+        half: half == 1,
+    })
 }
 
-pub fn flag(on: bool) -> u8
-    ensures { result ≡ bit on }
-{
-    if on { 1 } else { 0 }
-}
-
-pub fn present(d: MaybeDll) -> u8
+pub fn present(d: Option<Dll>) -> u8
     ensures { result ≡ present_of d }
 {
-    match d {
-        MaybeDll::Absent => 0,
-        MaybeDll::Present(_) => 1,
-    }
+    u8::from(d.is_some())
 }
 
-pub fn stage(d: MaybeDll) -> u8
+pub fn stage(d: Option<Dll>) -> u8
     ensures { result ≡ stage_of d }
 {
-    match d {
-        MaybeDll::Absent => 0,
-        MaybeDll::Present(d) => d.stage,
-    }
+    d.map_or(0, |d| d.stage)
 }
 
-pub fn half(d: MaybeDll) -> u8
+pub fn half(d: Option<Dll>) -> u8
     ensures { result ≡ half_of d }
 {
-    match d {
-        MaybeDll::Absent => 0,
-        MaybeDll::Present(d) => flag(d.half),
-    }
+    d.map_or(0, |d| u8::from(d.half))
 }

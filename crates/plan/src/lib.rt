@@ -5,7 +5,7 @@ pub mod bytes;
 pub mod codes;
 pub mod tests;
 
-use clock::MaybeDll;
+use clock::Dll;
 
 // A plan, its fields under the names of the source and in the record's codes.
 #[derive(Clone, Copy)]
@@ -14,8 +14,8 @@ pub struct Plan {
     pub hdiv: u8,
     pub pdiv1: u8,
     pub pdiv2: u8,
-    pub dll1: MaybeDll,
-    pub dll2: MaybeDll,
+    pub dll1: Option<Dll>,
+    pub dll2: Option<Dll>,
     pub hrc48_calibrate: bool,
     pub usb: bool,
     pub wdtsel: u8,

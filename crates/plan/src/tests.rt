@@ -1,6 +1,9 @@
 // The tests of a plan record: its lengths, its version, its codes.
 ghost use Rattle.std.specs.Prelude.{◌≡◌};
+ghost use Rattle.refusal.specs.Refusal.{number_of};
 ghost use Rattle.plan.specs.tests.{record_refusal};
+
+use refusal::Refusal;
 
 const BYTES: usize = 20;
 
@@ -8,21 +11,21 @@ const LENGTH: u16 = 18;
 
 const VERSION: u8 = 1;
 
-// Refusals 1 to 3 of a record, 0 for none.
-pub fn refusal(bytes: &[u8]) -> u8
-    ensures { result ≡ record_refusal bytes.now }
+// Refusals 1 to 3 of a record.
+pub fn test(bytes: &[u8]) -> Result<(), Refusal>
+    ensures { number_of result ≡ record_refusal bytes.now }
 {
     if bytes.len() != BYTES {
-        return 1;
+        return Err(Refusal::Length);
     }
     if record::two_bytes(bytes[0], bytes[1]) != LENGTH {
-        return 1;
+        return Err(Refusal::Length);
     }
     if bytes[2] != VERSION {
-        return 2;
+        return Err(Refusal::Version);
     }
     if !crate::codes::is_coded(bytes) {
-        return 3;
+        return Err(Refusal::Code);
     }
-    0
+    Ok(())
 }

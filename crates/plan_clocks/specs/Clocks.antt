@@ -1,21 +1,20 @@
 -- The clocks that a plan gives.
-use Rattle.std.specs.Prelude.{ℕ, ◌/◌, cond, eqb}
-use Rattle.clock.specs.declared.MaybeDll.{MaybeDll}
-use Rattle.clock.specs.declared.MaybeDll.TheVariants.{Absent, Present}
+use Rattle.std.specs.Prelude.{ℕ, ◌/◌, cond, eqb, Option, None, Some}
+use Rattle.clock.specs.declared.Dll.{Dll}
 use Rattle.clock.specs.Clock.{whole_hz, dll_hz, divided, shifted}
 use Rattle.plan.specs.declared.Plan.{Plan}
 use Rattle.plan_clocks.specs.declared.Sources.{Sources}
 use Rattle.plan_clocks.specs.declared.Target.{Target}
 
 -- a DLL's frequency in Hz, whole or halved; of an absent one 0, which no test below asks for
-abbrev pub maybe_hz : MaybeDll → ℕ
-maybe_hz Absent = 0
-maybe_hz (Present d) = dll_hz d.stage d.half
+abbrev pub maybe_hz : Option Dll → ℕ
+maybe_hz None = 0
+maybe_hz (Some d) = dll_hz d.stage d.half
 
 -- a DLL's frequency before halving
-abbrev pub maybe_whole_hz : MaybeDll → ℕ
-maybe_whole_hz Absent = 0
-maybe_whole_hz (Present d) = whole_hz d.stage
+abbrev pub maybe_whole_hz : Option Dll → ℕ
+maybe_whole_hz None = 0
+maybe_whole_hz (Some d) = whole_hz d.stage
 
 -- the core clock, `get_sysclk_freq_hz`: DLL1's where the select is 3; "HRC48 and HXT48 give 48,000,000."
 unfoldable pub sys_hz : Plan → ℕ

@@ -5,7 +5,7 @@ ghost use Rattle.std.specs.Prelude.{◌≡◌, cond, ◌≤◌, ◌/◌};
 ghost use Rattle.plan.specs.Code.{stage_of};
 ghost use Rattle.plan_clocks.specs.Clocks.{maybe_hz, maybe_whole_hz, sys_hz, usb_hz, sources_of, target_of};
 
-use clock::MaybeDll;
+use clock::Dll;
 use plan::Plan;
 use time::Hertz;
 
@@ -29,26 +29,23 @@ pub struct Target {
     pub usb_div: u8,
 }
 
-fn dll_freq(d: MaybeDll) -> Hertz
+fn dll_freq(d: Option<Dll>) -> Hertz
     requires { stage_of d ≤ 15 }
     ensures { result.0 ≡ maybe_hz d }
 {
     match d {
-        MaybeDll::Absent => Hertz(0),
-        MaybeDll::Present(dll) => dll.freq_hz(),
+        None => Hertz(0),
+        Some(dll) => dll.freq_hz(),
     }
 }
 
-pub fn dll_whole_freq(d: MaybeDll) -> Hertz
+pub fn dll_whole_freq(d: Option<Dll>) -> Hertz
     requires { stage_of d ≤ 15 }
     ensures { result.0 ≡ maybe_whole_hz d }
 {
     match d {
-        MaybeDll::Absent => Hertz(0),
-        MaybeDll::Present(dll) => {
-            let stage = dll.stage;
-            Hertz(24_000_000 * (stage as u32 + 1))
-        }
+        None => Hertz(0),
+        Some(dll) => Hertz(24_000_000 * (u32::from(dll.stage) + 1)),
     }
 }
 
@@ -57,12 +54,11 @@ fn sysclk(p: Plan) -> Hertz
     requires { stage_of p.dll1 ≤ 15 }
     ensures { result.0 ≡ sys_hz p }
 {
-    let sys = p.sys;
-    if sys != DLL1 {
-        return clock::CLK_HXT48_FREQ;
+    if p.sys == DLL1 {
+        dll_freq(p.dll1)
+    } else {
+        clock::CLK_HXT48_FREQ
     }
-    let dll1 = p.dll1;
-    dll_freq(dll1)
 }
 
 // The clock that USB is divided from.
@@ -70,12 +66,11 @@ fn usb_source(p: Plan, core: Hertz) -> Hertz
     requires { (stage_of p.dll2 ≤ 15) × (core.0 ≡ sys_hz p) }
     ensures { result.0 ≡ usb_hz p }
 {
-    let usbsel = p.usbsel;
-    if usbsel != USB_DLL2 {
-        return core;
+    if p.usbsel == USB_DLL2 {
+        dll_freq(p.dll2)
+    } else {
+        core
     }
-    let dll2 = p.dll2;
-    dll_freq(dll2)
 }
 
 pub fn sources_of(p: Plan) -> Sources
@@ -93,11 +88,11 @@ pub fn sources_of(p: Plan) -> Sources
 fn usb_divider(usb: bool, source: Hertz) -> u8
     ensures { result ≡ cond usb (source.0 / 60000000) 0 }
 {
-    if !usb {
-        return 0;
+    if usb {
+        (source.0 / 60_000_000) as u8
+    } else {
+        0
     }
-    let hertz = source.0;
-    (hertz / 60_000_000) as u8
 }
 
 // What a plan of these sources gives; HCLK is that of `get_hclk_freq_hz`.
@@ -105,13 +100,11 @@ pub fn target_from(p: Plan, sources: Sources) -> Target
     requires { sources ≡ sources_of p }
     ensures { result ≡ target_of p }
 {
-    let core = sources.core;
-    let source = sources.usb;
-    let hclk = clock::divide(core, p.hdiv);
+    let hclk = clock::divide(sources.core, p.hdiv);
     Target {
         hclk,
         pclk1: clock::prescale(hclk, p.pdiv1),
         pclk2: clock::prescale(hclk, p.pdiv2),
-        usb_div: usb_divider(p.usb, source),
+        usb_div: usb_divider(p.usb, sources.usb),
     }
 }

@@ -13,7 +13,7 @@ use Rattle.record.proofs.Refusals.{Each, first_each, refuse_each}
 use Rattle.plan.specs.bytes.{plan_of}
 use Rattle.head.specs.Record.{head_refusal, head_of, written}
 use Rattle.journal.specs.Run.{Run, Effect, begin}
-use Rattle.call.specs.Call.{Result, answers_tests, refused, finished, performed}
+use Rattle.call.specs.Call.{Left, answers_tests, refused, finished, performed}
 use Rattle.call.specs.with_plan.{lent_plan_tests}
 use Rattle.clock_config.specs.calibrate.{calibration_tests, calibration}
 use Rattle.clock_config.specs.init.{init_call}
@@ -35,8 +35,8 @@ use Rattle.play.proofs.Parts.{plays_change, plays_to_plan, plays_calibrate, play
 pub entries_are : (r : Run) (v : ℕ) (b j : List ℕ) → entries_of (finished r v b j) ≡ r.entries
 entries_are r v b j = take_at r.entries (drop (length r.entries) j) (length r.entries) refl
 
--- a result that is the same but for its value
-unaltered : (o o' : Result) → o'.refusal ≡ o.refusal → o'.entries ≡ o.entries → o'.buffer ≡ o.buffer → o'.journal ≡ o.journal →
+-- what a call leaves, with another value
+unaltered : (o o' : Left) → o'.refusal ≡ o.refusal → o'.entries ≡ o.entries → o'.buffer ≡ o.buffer → o'.journal ≡ o.journal →
     (o.refusal ≡ 36 → ⊥) → (x : List ℕ) → GoesOn x o o'
 unaltered o o' e f g h z x = record { rest = []; entries = rw (f, h) (sym (append-nil (entries_of o))); next = λ q. absurd (z q); whole = λ q. (e, g, h) }
 

@@ -7,10 +7,9 @@ use native.Mathlib.Omega.{arith}
 use lib.Dec.{eqb, leb, ltb}
 use lib.ListN.{length, drop, get_or-append}
 use borrow.Author.Tests.{eqb-true, eqb-false}
+use Rattle.std.specs.Prelude.{Option, Some, None}
 use Rattle.time.specs.Frequency.{hz_or, megahertz}
 use Rattle.clock.specs.declared.Dll.{Dll}
-use Rattle.clock.specs.declared.MaybeDll.{MaybeDll}
-use Rattle.clock.specs.declared.MaybeDll.TheVariants.{Absent, Present}
 use Rattle.plan.specs.declared.Plan.{Plan}
 use Rattle.plan_clocks.specs.Clocks.{hclk_hz}
 use Rattle.register.specs.Word.{word_of, byte_b, byte_c}
@@ -23,8 +22,6 @@ use Rattle.journal.proofs.Ended.{Still}
 use Rattle.journal.proofs.Mute.{Mute, mute_takes, mute_idle, mute_store, mute_delay, mute_halted, mute_head, mute_then, mute_if, mute_on_head}
 use Rattle.dvfs.specs.declared.hpsys.HpsysDvfsMode.{HpsysDvfsMode}
 use Rattle.dvfs.specs.declared.hpsys.HpsysDvfsMode.TheVariants.{D0, D1, S0, S1}
-use Rattle.dvfs.specs.declared.hpsys.HpsysModeFound.{HpsysModeFound}
-use Rattle.dvfs.specs.declared.hpsys.HpsysModeFound.TheVariants.{Mode, OutOfRange}
 use Rattle.dvfs.specs.Hpsys.{mode_of}
 use Rattle.dvfs_hpsys.specs.volts.{sx_mode_volt, timing}
 use Rattle.dvfs_hpsys.specs.switch.{s2s_first, d2s_first, s2d_first, s2d_second}
@@ -102,9 +99,9 @@ dll : (n : ℕ) (d : Dll) → Plays (configure_dll n d)
 unfolding configure_dll
 dll n d = plays_then (plays_mute (mute_then (sets n d) (mute_delay 10))) (plays_wait n)
 
-dll1 : (m : MaybeDll) → Plays (planned_dll1 m)
-dll1 Absent = plays_mute mute_idle
-dll1 (Present d) = dll 3 d
+dll1 : (m : Option Dll) → Plays (planned_dll1 m)
+dll1 None = plays_mute mute_idle
+dll1 (Some d) = dll 3 d
 
 -- the guarded change
 pub raises : (m : HpsysDvfsMode) → Mute (raise m)
@@ -160,10 +157,10 @@ plays_to_plan p =
     plays_on_head (λ (h : Head). transition (mode_of (megahertz (hz_or 48000000 (hclk_of h)))) (mode_of (megahertz (hclk_hz p))) p)
     (λ h. by (mode_of (megahertz (hz_or 48000000 (hclk_of h)))) (mode_of (megahertz (hclk_hz p))))
   where
-    by : (x y : HpsysModeFound) → Plays (transition x y p)
-    by (Mode current) (Mode target) = plays_then (plays_then (plays_mute (first current target)) (configures p)) (plays_mute (second current target))
-    by (Mode current) OutOfRange = plays_mute (mute_halted 35 (λ q. omega (arith, q)))
-    by OutOfRange target = plays_mute (mute_halted 35 (λ q. omega (arith, q)))
+    by : (x y : Option HpsysDvfsMode) → Plays (transition x y p)
+    by (Some current) (Some target) = plays_then (plays_then (plays_mute (first current target)) (configures p)) (plays_mute (second current target))
+    by (Some current) None = plays_mute (mute_halted 35 (λ q. omega (arith, q)))
+    by None target = plays_mute (mute_halted 35 (λ q. omega (arith, q)))
 
 -- the calibration: a measurement that came to its end has taken two answers, which are the same with more
 measures : (trim : ℕ) → Plays (measurement trim)
@@ -300,10 +297,10 @@ init_first_lem p =
     plays_then (plays_then (plays_mute (mute_then (mute_then (mute_store 23 1) (mute_store 10 1)) (mute_store 24 1)))
     (plays_if p.hrc48_calibrate (plays_then (plays_mute leaves_hrc48) plays_calibrate) (plays_mute mute_idle))) swallows
 
-dll2 : (m : MaybeDll) → Plays (planned_dll2 m)
+dll2 : (m : Option Dll) → Plays (planned_dll2 m)
 unfolding set_dll2 move_dll2
-dll2 Absent = plays_mute mute_idle
-dll2 (Present d) =
+dll2 None = plays_mute mute_idle
+dll2 (Some d) =
     plays_on_head (λ (h : Head) (a : List ℕ). set_dll2_on d a h)
     (λ h. plays_if (is_set d (reg h 4)) (plays_mute mute_idle) (plays_then (plays_then (plays_mute (mute_store 5 0)) (dll 4 d)) (plays_mute (mute_store 5 _))))
 

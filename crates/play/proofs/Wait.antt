@@ -7,10 +7,9 @@ use native.Mathlib.Omega.{arith}
 use lib.Dec.{eqb, ltb}
 use lib.ListN.{length, drop}
 use borrow.Author.Tests.{eqb-true, eqb-false}
+use Rattle.std.specs.Prelude.{Option, Some}
 use Rattle.record.proofs.Refusals.{none_refused, not_refused}
 use Rattle.clock.specs.declared.Dll.{Dll}
-use Rattle.clock.specs.declared.MaybeDll.{MaybeDll}
-use Rattle.clock.specs.declared.MaybeDll.TheVariants.{Present}
 use Rattle.plan.specs.declared.Plan.{Plan}
 use Rattle.plan.specs.bytes.{plan_of}
 use Rattle.plan_clocks.specs.Clocks.{hclk_hz}
@@ -29,7 +28,7 @@ use Rattle.guard_steps.specs.peak.{mode_at, peak_of}
 use Rattle.guard_steps.specs.supply.{raise, target_rails}
 use Rattle.guard_steps.specs.Steps.{leave_dll1, to_hxt48, to_planned, back_to}
 use Rattle.guard_change.specs.Change.{change}
-use Rattle.call.specs.Call.{Result, answers_tests, finished, performed}
+use Rattle.call.specs.Call.{Left, answers_tests, finished, performed}
 use Rattle.guard.specs.Guard.{change_tests, change_refusal, change_call}
 use Rattle.claim.specs.Moment.{one_ready, stop_for}
 use Rattle.claim.specs.Claim.{changing, entries_of, FitHead}
@@ -71,7 +70,7 @@ module _ (f g : Effect) (x : Mute f) (y : Mute g) (h : Head) (goes : (f (begin h
       ap g (at ∙ own) ∙ y.blind es (r.taken + n) (begin r.head)
 
 -- the guarded change to a plan with DLL1
-module _ (pb b j : List ℕ) (fit : FitHead b) (d : Dll) (with-dll1 : (plan_of pb).dll1 ≡ Present d) where
+module _ (pb b j : List ℕ) (fit : FitHead b) (d : Dll) (with-dll1 : (plan_of pb).dll1 ≡ Some d) where
   abbrev p : Plan
   p = plan_of pb
 
@@ -112,7 +111,7 @@ module _ (pb b j : List ℕ) (fit : FitHead b) (d : Dll) (with-dll1 : (plan_of p
   unfolding one_ready
   done e =
       let answered = (one b fit (booked h) refl (changing pb j (1 ∷ [])) tt).good.asked.0 e in
-      ap (λ (o : Result). o.refusal) (sym (performs (1 ∷ []) e)) ∙ (answered ∙ ap (λ (k : MaybeDll). stop_for k (1 ∷ [])) with-dll1)
+      ap (λ (o : Left). o.refusal) (sym (performs (1 ∷ []) e)) ∙ (answered ∙ ap (λ (k : Option Dll). stop_for k (1 ∷ [])) with-dll1)
 
   goes : (a : List ℕ) → change_refusal pb b j a ≡ 0 → (f (begin h)).stop ≡ 0
   unfolding wait
@@ -135,8 +134,8 @@ module _ (pb b j : List ℕ) (fit : FitHead b) (d : Dll) (with-dll1 : (plan_of p
       by : (k : Poll) → poll a ≡ k → k ≡ never_ready
       by never_ready s = refl
       by (ready_after n) s =
-          let stop : (change_call pb b j a).refusal ≡ stop_for (Present d) a =
-          (one b fit (booked h) refl (changing pb j a) tt).good.asked.0 e ∙ ap (λ (k : MaybeDll). stop_for k a) with-dll1 in
+          let stop : (change_call pb b j a).refusal ≡ stop_for (Some d) a =
+          (one b fit (booked h) refl (changing pb j a) tt).good.asked.0 e ∙ ap (λ (k : Option Dll). stop_for k a) with-dll1 in
           absurd (omega (arith, sym q ∙ (stop ∙ (sym (polled a) ∙ ap stop_of s))))
 
   abbrev made : List ℕ → Run
@@ -152,6 +151,6 @@ module _ (pb b j : List ℕ) (fit : FitHead b) (d : Dll) (with-dll1 : (plan_of p
         let at = found f g f_mute g_mute h (goes a e) 3 a n q in
         let entries = ap entries_of (performs a e) ∙ (entries_are (made a) 0 b j ∙ ap (λ (k : Run). k.entries) at) in (
           entries ∙ append_assoc (f (begin h)).entries (entry 49 (3 * 65536 + n) ∷ []) (g (begin (f (begin h)).head)).entries,
-          ap (λ (o : Result). o.buffer) (performs a e) ∙ ap (λ (k : Run). written k.head b) at,
+          ap (λ (o : Left). o.buffer) (performs a e) ∙ ap (λ (k : Run). written k.head b) at,
         );
   }

@@ -1,7 +1,7 @@
 -- A call lent some answers, and the same call lent more. Who plays a journal on the chip may make the stores of the first, poll, and go on.
 use Rattle.std.specs.Prelude.{ℕ, ◌+◌, ◌*◌, ◌≡◌, List, [], ◌∷◌, ◌++◌}
 use Rattle.journal.specs.Run.{entry, ready_after, poll}
-use Rattle.call.specs.Call.{Result}
+use Rattle.call.specs.Call.{Left}
 use Rattle.guard.specs.Guard.{change_refusal, change_call}
 use Rattle.claim.specs.Claim.{entries_of}
 
@@ -17,7 +17,7 @@ pub record BeginsWithWait (entries : List ℕ) : Type 0 where
 
 -- `o'` is the call lent the answers `x` more: its journal begins with that of `o`; where `o` did not run out of answers, "36 answers run out
 -- in a wait or measurement", it is no other; and where it did, the next entry is that of the wait that it was in, if `x` ends any wait
-pub record GoesOn (x : List ℕ) (o o' : Result) : Type 0 where
+pub record GoesOn (x : List ℕ) (o o' : Left) : Type 0 where
   pub rest : List ℕ
   pub entries : entries_of o' ≡ entries_of o ++ rest
   pub next : o.refusal ≡ 36 → x ≡ ends_any_wait → BeginsWithWait rest

@@ -5,8 +5,7 @@ use native.Mathlib.Omega.{arith}
 use native.Mathlib.Nat.{le_trans}
 use lib.Dec.{eqb}
 use Rattle.time.specs.declared.Hertz.{Hertz}
-use Rattle.time.specs.declared.Reading.{Reading}
-use Rattle.time.specs.declared.Reading.TheVariants.{At, Unreadable}
+use Rattle.std.specs.Prelude.{Option, Some, None}
 use Rattle.clock.proofs.Laws.{dll_least, divided_least, shifted_least}
 use Rattle.head.specs.declared.Head.{Head}
 use Rattle.register.specs.Word.{word_bytes, byte_a, byte_b, byte_c}
@@ -19,11 +18,11 @@ use Rattle.clock_read.specs.buses.{shifted_reading, pclk_of, pclk2_of, lpsys_pcl
 use Rattle.clock_read.proofs.Codes.{byte_most}
 
 -- a reading of at least `n` Hz, or none
-pub data Least : ℕ → Reading → Type 0 where
-  reads : {n : ℕ} {f : Hertz} → n ≤ f.0 → Least n (At f)
-  none : {n : ℕ} → Least n Unreadable
+pub data Least : ℕ → Option Hertz → Type 0 where
+  reads : {n : ℕ} {f : Hertz} → n ≤ f.0 → Least n (Some f)
+  none : {n : ℕ} → Least n None
 
-by_cond : {n : ℕ} (t : Bool) {x y : Reading} → Least n x → Least n y → Least n (cond t x y)
+by_cond : {n : ℕ} (t : Bool) {x y : Option Hertz} → Least n x → Least n y → Least n (cond t x y)
 by_cond true p q = p
 by_cond false p q = q
 
@@ -38,13 +37,13 @@ pub least_dll : (w : ℕ) → Least 12000000 (dll_reading w)
 unfolding dll_reading
 least_dll w = by_cond (eqb (byte_a w) 1) (reads (dll_least (byte_c w) (eqb (byte_b w) 1))) none
 
-least_divided : (n : ℕ) (r : Reading) (d : ℕ) → d ≤ 255 → Least n r → Least (n / 255) (divided_reading r d)
-least_divided n (At f) d p (reads q) = reads (divided_least n f.0 d p q)
-least_divided n Unreadable d p none = none
+least_divided : (n : ℕ) (r : Option Hertz) (d : ℕ) → d ≤ 255 → Least n r → Least (n / 255) (divided_reading r d)
+least_divided n (Some f) d p (reads q) = reads (divided_least n f.0 d p q)
+least_divided n None d p none = none
 
-least_shifted : (n : ℕ) (r : Reading) (e : ℕ) → e ≤ 7 → Least n r → Least (n / 128) (shifted_reading r e)
-least_shifted n (At f) e p (reads q) = reads (shifted_least n f.0 e p q)
-least_shifted n Unreadable e p none = none
+least_shifted : (n : ℕ) (r : Option Hertz) (e : ℕ) → e ≤ 7 → Least n r → Least (n / 128) (shifted_reading r e)
+least_shifted n (Some f) e p (reads q) = reads (shifted_least n f.0 e p q)
+least_shifted n None e p none = none
 
 pub least_sys : (h : Head) → Least 12000000 (sys_of h)
 unfolding sys_of
@@ -77,7 +76,7 @@ pub record Positive (h : Head) : Type 0 where
   pub lpsys_peri : Least 1 (lpsys_peri_of h)
   pub lpsys_mac : Least 1 (lpsys_mac_of h)
 
-lower : {m n : ℕ} {r : Reading} → m ≤ n → Least n r → Least m r
+lower : {m n : ℕ} {r : Option Hertz} → m ≤ n → Least n r → Least m r
 lower p (reads q) = reads (le_trans p q)
 lower p none = none
 

@@ -5,8 +5,9 @@ use mathlib.Core.List.{List, [], ◌∷◌, ◌++◌, append_assoc}
 use native.Mathlib.Omega.{arith}
 use native.Mathlib.Nat.{add_assoc, add-zero, zero-add, add_comm, mul-suc}
 use native.Mathlib.Numerals.{add-one}
-use lib.ListN.{length, get_or, take, drop, set, length-append, take-append-drop}
-use lib.Seq.{drop-drop, take-suc, take_at, drop_at, sets, sets-eq, length-take-le}
+use borrow.Rule.Slice.PartMut.{put_mid}
+use lib.ListN.{length, get_or, take, drop, length-append, take-append-drop}
+use lib.Seq.{drop-drop, take_at, drop_at, sets, sets-eq, length-take-le}
 use Rattle.record.specs.Items.{joined, laid}
 use Rattle.record.proofs.Items.{joined_next, joined_length}
 
@@ -41,14 +42,10 @@ pub laid_sets : (at : ℕ) (vs b : List ℕ) → at + length vs ≤ length b →
 unfolding laid
 laid_sets at vs b h = sets-eq vs b at h ∙ append_assoc (take at b) vs (drop (at + length vs) b)
 
--- a turn of a loop that stores the bytes `vs` from place `at` on
-pub laid_byte : (at i : ℕ) (vs b l : List ℕ) → i < length vs → at + length vs ≤ length b → length l ≡ length b → l ≡ laid at (take i vs) b →
-    set l (at + i) (get_or vs i 0) ≡ laid at (take (i + 1) vs) b
-laid_byte at i vs b l h room same e =
-    let v : List ℕ = get_or vs i 0 ∷ [] in
-    let n : length (take i vs) ≡ i = length-take-le i vs (omega arith) in
-    laid_sets (at + i) v l (omega arith)
-    ∙ (ap (laid (at + i) v) e ∙ (laid_then at (at + i) (take i vs) v b (omega arith) (omega arith) ∙ rw (add-one i, take-suc vs i 0 h)))
+-- bytes copied over a part of as many
+pub laid_part : (at k : ℕ) (vs ys b : List ℕ) → ys ≡ vs → k ≡ length vs → put_mid at k b ys ≡ laid at vs b
+unfolding laid
+laid_part at k vs ys b same e = rw (same, e, drop-drop (length vs) at b)
 
 module _ {A : Type 0} (g : A → List ℕ) (size : ℕ) (sized : (x : A) → length (g x) ≡ size) where
   -- a turn of a loop that writes the items `xs` from place `at` on

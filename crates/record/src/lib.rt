@@ -10,17 +10,18 @@ ghost use Rattle.record.specs.Four.{four_of, four_bytes, four_in};
 pub fn two_bytes(high: u8, low: u8) -> u16
     ensures { result ≡ two_bytes high low }
 {
-    (high as u16) * 256 + (low as u16)
+    u16::from_be_bytes([high, low])
 }
 
 // The number of four bytes, high byte first.
 pub fn four_bytes(a: u8, b: u8, c: u8, d: u8) -> u32
     ensures { result ≡ four_of a b c d }
 {
-    (a as u32) * 16777216 + ((b as u32) * 65536 + ((c as u32) * 256 + (d as u32)))
+    u32::from_be_bytes([a, b, c, d])
 }
 
 // The number at a place of bytes.
+#[tactic(auto, unfolding(crate::specs::Four::four_in))]
 pub fn four_at(bytes: &[u8], at: usize) -> u32
     requires { at + 4 ≤ length bytes.now }
     ensures { result ≡ four_in (drop at bytes.now) }
@@ -28,41 +29,31 @@ pub fn four_at(bytes: &[u8], at: usize) -> u32
     four_bytes(bytes[at], bytes[at + 1], bytes[at + 2], bytes[at + 3])
 }
 
+#[tactic(auto, unfolding(crate::specs::Four::four_bytes))]
 pub fn put_four(buffer: &mut [u8], at: usize, number: u32)
     requires { at + 4 ≤ length buffer.old }
     ensures { buffer.new ≡ laid at (four_bytes number) buffer.old }
 {
-    buffer[at] = (number / 16777216 % 256) as u8;
-    buffer[at + 1] = (number / 65536 % 256) as u8;
-    buffer[at + 2] = (number / 256 % 256) as u8;
-    buffer[at + 3] = (number % 256) as u8;
+    put(buffer, at, &number.to_be_bytes());
 }
 
-// Whether each byte is at most the largest value at its place. The loop has one way through, so that it
+// Whether each byte is at most the largest value at its place. The fold has one way through, so that it
 // is compiled to vectors.
 pub fn within(bytes: &[u8], largest: &[u8]) -> bool
     ensures { result ≡ is_within bytes.now largest.now }
 {
-    if bytes.len() != largest.len() {
-        return false;
-    }
-    let mut all = true;
-    let mut i = 0;
-    while i < bytes.len() {
-        all = all & (bytes[i] <= largest[i]);
-        i += 1;
-    }
-    all
+    bytes.len() == largest.len()
+        && bytes
+            .iter()
+            .zip(largest)
+            .fold(true, |all, (byte, most)| all & (byte <= most))
 }
 
 // Writes bytes over those of a buffer, from a place on.
+#[tactic(auto, using(crate::proofs::Laid::laid_part))]
 pub fn put(buffer: &mut [u8], at: usize, part: &[u8])
     requires { at + length part.now ≤ length buffer.old }
     ensures { buffer.new ≡ laid at part.now buffer.old }
 {
-    let mut i = 0;
-    while i < part.len() {
-        buffer[at + i] = part[i];
-        i += 1;
-    }
+    buffer[at..at + part.len()].copy_from_slice(part);
 }

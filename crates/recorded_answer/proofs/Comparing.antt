@@ -3,11 +3,9 @@ use Prim.Native.Nat.{ℕ}
 use mathlib.Core.Path.{◌≡◌, ◌∙◌}
 use mathlib.Core.List.{List, ◌++◌}
 use native.Mathlib.Omega.{arith}
-use lib.ListN.{length}
 use Rattle.text.specs.Text.{Puts}
 use Rattle.text.proofs.Putting.{puts_then}
 use Rattle.recorded_answer.specs.Answer.{Matches}
 
-pub same_line : {line given left t t' t'' j : List ℕ} {m end entries : ℕ} → Puts given t 0 t' m → Puts left t' m t'' end → Matches line j entries t'' end →
-    length t' ≡ length t → length t'' ≡ length t' → line ≡ given ++ left
-same_line p q x e f = x.text_is ∙ (puts_then p q e).put (omega (arith, x.whole))
+pub same_line : {line given left t t' t'' j : List ℕ} {m end entries : ℕ} → Puts given t 0 t' m → Puts left t' m t'' end → Matches line j entries t'' end → line ≡ given ++ left
+same_line p q x = x.text_is ∙ (puts_then p q).put (omega arith)

@@ -1,13 +1,13 @@
 -- A line that records what a call is given and leaves, compared with a text and a journal.
-use Rattle.std.specs.Prelude.{ℕ, ◌≤◌, ◌<◌, ◌≡◌, List, length, take, get_or}
-use Rattle.recorded_answer.specs.declared.Outcome.{Outcome}
-use Rattle.recorded_answer.specs.declared.Outcome.TheVariants.{Same, Different, Overwritten}
+use Rattle.std.specs.Prelude.{ℕ, ◌≤◌, ◌<◌, ◌≡◌, List, length, take, get_or, Result, Ok, Err}
+use Rattle.recorded_answer.specs.declared.Difference.{Difference}
+use Rattle.recorded_answer.specs.declared.Difference.TheVariants.{Answer, Overwritten}
 
--- our answer lies within a text of this length
-abbrev pub AnswerWithin : Outcome → ℕ → Type 0
-AnswerWithin Same text = Unit
-AnswerWithin (Different from to) text = (from ≤ to) × (to ≤ text)
-AnswerWithin Overwritten text = Unit
+-- our answer, where the line has another, is what stands in the text
+abbrev pub Shows : Result (Unit {0}) Difference → List ℕ → Type 0
+Shows (Ok same) answer = Unit
+Shows (Err (Answer shown)) answer = shown.now ≡ answer
+Shows (Err Overwritten) answer = Unit
 
 -- what each word of the journal holds before a call
 abbrev pub unused : ℕ

@@ -6,14 +6,16 @@ pub mod given;
 pub mod left;
 pub mod loads;
 
-ghost use Rattle.std.specs.Prelude.{◌≤◌, ◌≡◌, true, length};
-ghost use Rattle.recorded_answer.specs.Answer.{AnswerWithin, Keeps, Matches};
+ghost use Rattle.std.specs.Prelude.{◌≤◌, ◌≡◌, OnOk, true, drop, take};
+ghost use Rattle.recorded_answer.specs.Answer.{Shows, Keeps, Matches};
 
+use text::Text;
+
+// What a line is not the same for.
 #[derive(Clone, Copy)]
-pub enum Outcome {
-    Same,
-    // Our answer stands in the text from `from` up to `to`.
-    Different { from: usize, to: usize },
+pub enum Difference<'a> {
+    // Our answer.
+    Answer(&'a [u8]),
     // Our call changed words of the journal past its entries.
     Overwritten,
 }
@@ -25,35 +27,27 @@ pub const UNUSED: u32 = 0xA5A5A5A5;
 fn keeps(journal: &[u32], from: usize) -> bool
     ensures { result ≡ true → Keeps journal.now from }
 {
-    let mut i = from;
-    while i < journal.len() {
-        if journal[i] != UNUSED {
-            return false;
-        }
-        i += 1;
-    }
-    true
+    journal.iter().skip(from).all(|word| *word == UNUSED)
 }
 
-// Compares the line with the text up to `end`, in which our answer starts at `from`. A text that is
-// full may have been cut, so it is not taken for the same.
-pub fn compare(
+// Compares the line with the text, in which our answer starts at `from`. A text that is full may have
+// been cut, so it is not taken for the same.
+pub fn compare<'a>(
     line: &[u8],
     journal: &[u32],
     entries: usize,
-    text: &[u8],
+    text: &'a Text,
     from: usize,
-    end: usize,
-) -> Outcome
-    requires { (from ≤ end) × (end ≤ length text.now) }
-    ensures within { AnswerWithin result (length text.now) }
-    ensures same { result ≡ Outcome.Same → Matches line.now journal.now entries text.now end }
+) -> Result<(), Difference<'a>>
+    requires { from ≤ text.now.len }
+    ensures answer { Shows result (drop from (take text.now.len text.now.bytes)) }
+    ensures same { OnOk result (Matches line.now journal.now entries text.now.bytes text.now.len) }
 {
     if !keeps(journal, entries) {
-        return Outcome::Overwritten;
+        return Err(Difference::Overwritten);
     }
-    if end < text.len() && line == &text[..end] {
-        return Outcome::Same;
+    if text.is_full() || line != text.as_bytes() {
+        return Err(Difference::Answer(&text.as_bytes()[from..]));
     }
-    Outcome::Different { from, to: end }
+    Ok(())
 }

@@ -1,7 +1,7 @@
 -- What the LPSYS calls leave, given an argument's bytes.
 use Rattle.std.specs.Prelude.{ℕ, List, get_or}
 use Rattle.record.specs.Four.{four_in}
-use Rattle.call.specs.Call.{Result}
+use Rattle.call.specs.Call.{Left}
 use Rattle.lpsys_request.specs.frequency.{lpsys_request, safe_frequency}
 use Rattle.clock_lpsys.specs.dividers.{set_lpsys_hdiv, set_lpsys_div, config_mac}
 use Rattle.clock_lpsys.specs.selects.{select_sysclk, select_peri}
@@ -11,7 +11,7 @@ use Rattle.recorded_call.specs.declared.lpsys.Call.TheVariants.{Request, Safe, W
 
 -- what a call leaves of a head's buffer and a journal, given an argument and answers: a frequency in MHz is four bytes, a divider and a
 -- source one
-abbrev pub result_of : Call → List ℕ → List ℕ → List ℕ → List ℕ → Result
+abbrev pub result_of : Call → List ℕ → List ℕ → List ℕ → List ℕ → Left
 result_of Request x b j a = lpsys_request (four_in x) b j
 result_of Safe x b j a = safe_frequency b j
 result_of Wake x b j a = wake_lcpu b j a

@@ -10,80 +10,48 @@ mod files;
 mod output;
 mod reading;
 
-use calls::Call;
-use files::Recorded;
+use files::replay;
 use reading::Reading;
+use recorded_call::{lpsys, tasks};
+use recorded_config::kinds as config;
 use std::io;
-use std::rt::Files;
 
-fn readings<R: Files + Print>(rt: &R) -> io::Result<()> {
-    files::replay(rt, Recorded::Reading(Reading::Plan), b"plan")?;
-    files::replay(rt, Recorded::Reading(Reading::Clocks), b"clocks")?;
-    files::replay(rt, Recorded::Reading(Reading::Lpsys), b"lpsys")?;
-    files::replay(rt, Recorded::Reading(Reading::Load), b"load")
-}
+const READINGS: [(Reading, &str); 4] = [
+    (Reading::Plan, "plan"),
+    (Reading::Clocks, "clocks"),
+    (Reading::Lpsys, "lpsys"),
+    (Reading::Load, "load"),
+];
 
-fn lpsys<R: Files + Print>(
-    rt: &R,
-    call: recorded_call::lpsys::Call,
-    name: &[u8],
-) -> io::Result<()> {
-    files::replay(rt, Recorded::Call(Call::Lpsys(call)), name)
-}
+const LPSYS: [(lpsys::Call, &str); 10] = [
+    (lpsys::Call::Request, "request"),
+    (lpsys::Call::Safe, "safe"),
+    (lpsys::Call::Wake, "wake"),
+    (lpsys::Call::Cancel, "cancel"),
+    (lpsys::Call::Hxt48, "hxt48"),
+    (lpsys::Call::Hdiv, "hdiv"),
+    (lpsys::Call::Div, "div"),
+    (lpsys::Call::Mac, "mac"),
+    (lpsys::Call::Sysclk, "sysclk"),
+    (lpsys::Call::Peri, "peri"),
+];
 
-fn config<R: Files + Print>(
-    rt: &R,
-    call: recorded_config::kinds::Call,
-    name: &[u8],
-) -> io::Result<()> {
-    files::replay(rt, Recorded::Call(Call::Config(call)), name)
-}
+const CONFIG: [(config::Call, &str); 4] = [
+    (config::Call::Calibrate, "calibrate"),
+    (config::Call::Init, "init"),
+    (config::Call::Reconfigure, "reconfigure"),
+    (config::Call::Change, "change"),
+];
 
-fn tasks<R: Files + Print>(
-    rt: &R,
-    call: recorded_call::tasks::Call,
-    name: &[u8],
-) -> io::Result<()> {
-    files::replay(rt, Recorded::Call(Call::Tasks(call)), name)
-}
-
-fn calls_of_lpsys<R: Files + Print>(rt: &R) -> io::Result<()> {
-    lpsys(rt, recorded_call::lpsys::Call::Request, b"request")?;
-    lpsys(rt, recorded_call::lpsys::Call::Safe, b"safe")?;
-    lpsys(rt, recorded_call::lpsys::Call::Wake, b"wake")?;
-    lpsys(rt, recorded_call::lpsys::Call::Cancel, b"cancel")?;
-    lpsys(rt, recorded_call::lpsys::Call::Hxt48, b"hxt48")
-}
-
-fn setters_of_lpsys<R: Files + Print>(rt: &R) -> io::Result<()> {
-    lpsys(rt, recorded_call::lpsys::Call::Hdiv, b"hdiv")?;
-    lpsys(rt, recorded_call::lpsys::Call::Div, b"div")?;
-    lpsys(rt, recorded_call::lpsys::Call::Mac, b"mac")?;
-    lpsys(rt, recorded_call::lpsys::Call::Sysclk, b"sysclk")?;
-    lpsys(rt, recorded_call::lpsys::Call::Peri, b"peri")
-}
-
-fn calls_of_config<R: Files + Print>(rt: &R) -> io::Result<()> {
-    config(rt, recorded_config::kinds::Call::Calibrate, b"calibrate")?;
-    config(rt, recorded_config::kinds::Call::Init, b"init")?;
-    config(
-        rt,
-        recorded_config::kinds::Call::Reconfigure,
-        b"reconfigure",
-    )?;
-    config(rt, recorded_config::kinds::Call::Change, b"change")
-}
-
-fn calls_of_tasks<R: Files + Print>(rt: &R) -> io::Result<()> {
-    tasks(rt, recorded_call::tasks::Call::Book, b"book")?;
-    tasks(rt, recorded_call::tasks::Call::Release, b"release")?;
-    tasks(rt, recorded_call::tasks::Call::LookUp, b"look_up")
-}
+const TASKS: [(tasks::Call, &str); 3] = [
+    (tasks::Call::Book, "book"),
+    (tasks::Call::Release, "release"),
+    (tasks::Call::LookUp, "look_up"),
+];
 
 fn main(rt: HostRuntime) -> io::Result<()> {
-    readings(&rt)?;
-    calls_of_lpsys(&rt)?;
-    setters_of_lpsys(&rt)?;
-    calls_of_config(&rt)?;
-    calls_of_tasks(&rt)
+    replay(&rt, &READINGS)?;
+    replay(&rt, &LPSYS)?;
+    replay(&rt, &CONFIG)?;
+    replay(&rt, &TASKS)
 }

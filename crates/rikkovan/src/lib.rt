@@ -19,7 +19,7 @@ ghost use Rattle.call.specs.word.{packed, Gives};
 pub extern "C" fn rikkovan_plan_check(bytes: &[u8]) -> u64
     ensures { result ≡ number_of (verdict bytes.now) }
 {
-    verdict::planned::check(bytes) as u64
+    u64::from(refusal::number_of(verdict::planned::check(bytes)))
 }
 
 // The 15 frequencies of a head, 0 for none; on a refusal `clocks` stays.
@@ -28,7 +28,7 @@ pub extern "C" fn rikkovan_read_clocks(head: &[u8], clocks: &mut [u32; 15]) -> u
     ensures value { result ≡ packed (head_refusal head.now) 0 0 0 }
     ensures clocks_after { clocks.new ≡ unless_refused head.now (clocks_of (head_of head.now)) clocks.old }
 {
-    call::word::pack(readings::read_clocks(head, clocks), 0, 0, 0)
+    call::word::of_reading(readings::read_clocks(head, clocks))
 }
 
 // The six frequencies of LPSYS, 0 for none; on a refusal `lpsys` stays.
@@ -37,7 +37,7 @@ pub extern "C" fn rikkovan_read_lpsys(head: &[u8], lpsys: &mut [u32; 6]) -> u64
     ensures value { result ≡ packed (head_refusal head.now) 0 0 0 }
     ensures lpsys_after { lpsys.new ≡ unless_refused head.now (lpsys_of (head_of head.now)) lpsys.old }
 {
-    call::word::pack(readings::read_lpsys(head, lpsys), 0, 0, 0)
+    call::word::of_reading(readings::read_lpsys(head, lpsys))
 }
 
 // The rail limit, the load, and the first clause of a fit head that does not hold, 0 for none; on a refusal `fit` stays.
@@ -46,7 +46,7 @@ pub extern "C" fn rikkovan_read_fit(head: &[u8], fit: &mut [u64; 3]) -> u64
     ensures value { result ≡ packed (head_refusal head.now) 0 0 0 }
     ensures fit_after { fit.new ≡ unless_refused head.now (fit_of (head_of head.now)) fit.old }
 {
-    call::word::pack(fit_reading::read_fit(head, fit), 0, 0, 0)
+    call::word::of_reading(fit_reading::read_fit(head, fit))
 }
 
 // Puts the stores of entries into a head.

@@ -11,7 +11,7 @@ ghost use Rattle.call.specs.word.{Gives};
 pub extern "C" fn rikkovan_load_check(tasks: &[u8]) -> u64
     ensures { result ≡ check_word (load_check tasks.now) }
 {
-    load::check::load_check(tasks).word()
+    load::check::word(load::check::load_check(tasks))
 }
 
 #[unsafe(no_mangle)]

@@ -1,5 +1,5 @@
 // The booked tasks of a head record: their bytes and their places.
-ghost use Rattle.std.specs.Prelude.{◌≡◌, ◌+◌, ◌*◌, ◌≤◌, length, take, drop};
+ghost use Rattle.std.specs.Prelude.{◌≡◌, ◌+◌, ◌*◌, ◌≤◌, length, drop};
 ghost use Rattle.layout.specs.Layout.{most_tasks, first_task, period_end, task_size, buffer_bytes};
 ghost use Rattle.record.specs.Items.{items, joined, laid};
 ghost use Rattle.task.specs.bytes.{task_in, task_bytes, count_in, placed, places_in};
@@ -25,16 +25,9 @@ pub fn tasks_at(bytes: &[u8], at: usize, size: usize, count: usize) -> [Task; la
     requires { (period_end ≤ size) × ((at + size * count ≤ length bytes.now) × (count ≤ most_tasks)) }
     ensures { result ≡ placed (items task_in size count (drop at bytes.now)) count }
 {
-    let none = Task {
-        id: 0,
-        cycles: 0,
-        period: 0,
-    };
-    let mut tasks = [none; layout::MOST_TASKS];
-    let mut i = 0;
-    while i < count {
+    let mut tasks = [Task::default(); layout::MOST_TASKS];
+    for i in 0..count {
         tasks[i] = task_at(bytes, at + size * i);
-        i += 1;
     }
     tasks
 }
@@ -58,14 +51,12 @@ fn put_task(buffer: &mut [u8], at: usize, task: Task)
 }
 
 // Writes the booked tasks at their places.
-pub fn write(tasks: [Task; layout::MOST_TASKS], count: u8, buffer: &mut [u8])
-    requires { (length buffer.old ≡ buffer_bytes) × (count ≤ most_tasks) }
-    ensures { buffer.new ≡ laid first_task (joined task_bytes (take count tasks)) buffer.old }
+#[tactic(auto, using(record::proofs::Laid::laid_item, record::proofs::Laid::laid_none, crate::proofs::bytes::Laws::task_length), unfolding(record::specs::Items::joined))]
+pub fn write(tasks: &[Task], buffer: &mut [u8])
+    requires { (length buffer.old ≡ buffer_bytes) × (length tasks.now ≤ most_tasks) }
+    ensures { buffer.new ≡ laid first_task (joined task_bytes tasks.now) buffer.old }
 {
-    let end = count as usize;
-    let mut i = 0;
-    while i < end {
-        put_task(buffer, layout::FIRST_TASK + layout::TASK_SIZE * i, tasks[i]);
-        i += 1;
+    for (i, task) in tasks.iter().enumerate() {
+        put_task(buffer, layout::FIRST_TASK + layout::TASK_SIZE * i, *task);
     }
 }

@@ -6,7 +6,7 @@ pub mod list;
 pub mod look_up;
 pub mod rules;
 
-#[derive(Clone, Copy)]
+#[derive(Clone, Copy, Default)]
 pub struct Task {
     pub id: u8,
     pub cycles: u32,

@@ -11,14 +11,7 @@ pub fn all_ok(bytes: &[u8], size: usize, count: usize) -> bool
     requires { (period_end ≤ size) × (size * count ≤ length bytes.now) }
     ensures { result ≡ all_ok (items task_in size count bytes.now) }
 {
-    let mut i = 0;
-    while i < count {
-        if !crate::rules::ok(crate::bytes::task_at(bytes, size * i)) {
-            return false;
-        }
-        i += 1;
-    }
-    true
+    (0..count).all(|i| crate::rules::ok(crate::bytes::task_at(bytes, size * i)))
 }
 
 // Whether one of the tasks from `from` on has the id.
@@ -26,14 +19,7 @@ fn has_id(bytes: &[u8], size: usize, from: usize, count: usize, id: u8) -> bool
     requires { (from ≤ count) × ((period_end ≤ size) × (size * count ≤ length bytes.now)) }
     ensures { result ≡ has_id id (drop from (items task_in size count bytes.now)) }
 {
-    let mut i = from;
-    while i < count {
-        if bytes[size * i] == id {
-            return true;
-        }
-        i += 1;
-    }
-    false
+    (from..count).any(|i| bytes[size * i] == id)
 }
 
 // Whether no two of the tasks have the same id.
@@ -41,14 +27,7 @@ pub fn distinct(bytes: &[u8], size: usize, count: usize) -> bool
     requires { (period_end ≤ size) × (size * count ≤ length bytes.now) }
     ensures { result ≡ distinct (items task_in size count bytes.now) }
 {
-    let mut i = 0;
-    while i < count {
-        if has_id(bytes, size, i + 1, count, bytes[size * i]) {
-            return false;
-        }
-        i += 1;
-    }
-    true
+    (0..count).all(|i| !has_id(bytes, size, i + 1, count, bytes[size * i]))
 }
 
 // Whether a record's tasks are such that neither 16 nor 40 would refuse one.
@@ -58,8 +37,5 @@ pub fn fit(buffer: &[u8]) -> bool
 {
     let count = buffer[layout::TASK_COUNT_AT] as usize;
     let tasks = &buffer[layout::FIRST_TASK..];
-    if !all_ok(tasks, layout::TASK_SIZE, count) {
-        return false;
-    }
-    distinct(tasks, layout::TASK_SIZE, count)
+    all_ok(tasks, layout::TASK_SIZE, count) && distinct(tasks, layout::TASK_SIZE, count)
 }

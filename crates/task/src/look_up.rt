@@ -1,5 +1,5 @@
 // Looking a task id up.
-ghost use Rattle.std.specs.Prelude.{◌≡◌, ◌≤◌, take};
+ghost use Rattle.std.specs.Prelude.{◌≡◌, ◌≤◌, length};
 ghost use Rattle.layout.specs.Layout.{most_tasks};
 ghost use Rattle.task.specs.look_up.{look_up, value_of};
 
@@ -24,18 +24,13 @@ impl LookUp {
     }
 }
 
-// Reads the first `count` tasks, up to the one that has the id.
-pub fn look_up(tasks: [Task; layout::MOST_TASKS], count: u8, id: u8) -> LookUp
-    requires { count ≤ most_tasks }
-    ensures { result ≡ look_up id (take count tasks) }
+// Reads the tasks up to the one that has the id.
+pub fn look_up(tasks: &[Task], id: u8) -> LookUp
+    requires { length tasks.now ≤ most_tasks }
+    ensures { result ≡ look_up id tasks.now }
 {
-    let mut read = 0;
-    while read < count {
-        let task = tasks[read as usize];
-        read += 1;
-        if task.id == id {
-            return LookUp::Hit(read);
-        }
+    match tasks.iter().position(|task| task.id == id) {
+        Some(at) => LookUp::Hit(at as u8 + 1),
+        None => LookUp::Miss(tasks.len() as u8),
     }
-    LookUp::Miss(read)
 }

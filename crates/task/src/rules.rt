@@ -1,5 +1,5 @@
 // The rules of tasks.
-ghost use Rattle.std.specs.Prelude.{◌≡◌, ◌≤◌, take};
+ghost use Rattle.std.specs.Prelude.{◌≡◌, ◌≤◌, length};
 ghost use Rattle.layout.specs.Layout.{most_tasks};
 ghost use Rattle.task.specs.Task.{task_ok, has_id};
 
@@ -10,25 +10,13 @@ use crate::look_up::LookUp;
 pub fn ok(task: Task) -> bool
     ensures { result ≡ task_ok task }
 {
-    if task.id == 0 {
-        return false;
-    }
-    if task.cycles == 0 {
-        return false;
-    }
-    if task.period == 0 {
-        return false;
-    }
-    task.period <= 10000000
+    task.id != 0 && task.cycles != 0 && (1..=10_000_000).contains(&task.period)
 }
 
-// Whether one of the first `count` tasks has the id.
-pub fn has_id(tasks: [Task; layout::MOST_TASKS], count: u8, id: u8) -> bool
-    requires { count ≤ most_tasks }
-    ensures { result ≡ has_id id (take count tasks) }
+// Whether one of the tasks has the id.
+pub fn has_id(tasks: &[Task], id: u8) -> bool
+    requires { length tasks.now ≤ most_tasks }
+    ensures { result ≡ has_id id tasks.now }
 {
-    match crate::look_up::look_up(tasks, count, id) {
-        LookUp::Hit(_) => true,
-        LookUp::Miss(_) => false,
-    }
+    matches!(crate::look_up::look_up(tasks, id), LookUp::Hit(_))
 }

@@ -32,10 +32,10 @@ field_some k (n ∷ ns) h = refl
 
 -- one number more of a field
 pub puts_hex : (k : ℕ) (ns : List ℕ) (i : ℕ) {t t' t'' : List ℕ} {at m end : ℕ} → Puts (hex_of k (take i ns)) t at t' m →
-    Puts (hex_digits k (get_or ns i 0)) t' m t'' end → i < length ns → length t' ≡ length t → Puts (hex_of k (take (i + 1) ns)) t at t'' end
-puts_hex k ns i p q h e = rw (hex_next k ns i h) (puts_then p q e)
+    Puts (hex_digits k (get_or ns i 0)) t' m t'' end → i < length ns → Puts (hex_of k (take (i + 1) ns)) t at t'' end
+puts_hex k ns i p q h = rw (hex_next k ns i h) (puts_then p q)
 
 -- a blank and all of them
 pub puts_field : (k : ℕ) (ns : List ℕ) (i : ℕ) {t t' t'' : List ℕ} {at m end : ℕ} → Puts (32 ∷ []) t at t' m →
-    Puts (hex_of k (take i ns)) t' m t'' end → 0 < length ns → length ns ≤ i → length t' ≡ length t → Puts (32 ∷ hex_field k ns) t at t'' end
-puts_field k ns i p q h l e = rw (field_some k ns h) (puts_then p (rw (take_all i ns l) at q) e)
+    Puts (hex_of k (take i ns)) t' m t'' end → 0 < length ns → length ns ≤ i → Puts (32 ∷ hex_field k ns) t at t'' end
+puts_field k ns i p q h l = rw (field_some k ns h) (puts_then p (rw (take_all i ns l) at q))

@@ -6,4 +6,5 @@ use Rattle.std.specs.Prelude.{ℕ, ◌≤◌, ◌<◌, ◌≡◌, List, ◌++◌
 pub record Puts (added text : List ℕ) (at : ℕ) (text' : List ℕ) (end : ℕ) : Type 0 where
   pub from : at ≤ end
   pub within : end ≤ length text
+  pub same : length text' ≡ length text
   pub put : end < length text → take end text' ≡ take at text ++ added

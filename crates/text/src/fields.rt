@@ -3,60 +3,35 @@
 // its own: its line differs.
 ghost use Rattle.std.specs.Prelude.{◌≤◌, length};
 
-use digits::hexadecimal::Pair;
-
-// `count` bytes, at the start of the buffer. `next` is the place after the field.
-#[derive(Clone, Copy)]
-pub struct Field {
-    pub count: usize,
-    pub next: usize,
-}
-
-// The place of the first blank of the line from `at` on, or the line's end.
-fn end_of(line: &[u8], at: usize) -> usize {
-    let mut end = at;
-    while end < line.len() {
-        if line[end] == b' ' {
-            return end;
-        }
-        end += 1;
-    }
-    end
-}
-
 // Decodes pairs of digits from the text's start on, as many as there are and fit, and answers how
 // many bytes they are.
 fn decode_pairs(text: &[u8], bytes: &mut [u8]) -> usize
     ensures { result ≤ length bytes.old }
 {
-    let most = text.len() / 2;
     let mut count = 0;
-    while count < bytes.len() && count < most {
-        let high = 2 * count;
-        match digits::hexadecimal::decode_pair(text[high], text[high + 1]) {
-            Pair::Malformed => {
-                return count;
-            }
-            Pair::Byte(byte) => {
-                bytes[count] = byte;
-            }
-        }
+    for (pair, slot) in text.chunks_exact(2).zip(bytes.iter_mut()) {
+        let Some(byte) = digits::hexadecimal::decode_pair(pair[0], pair[1]) else {
+            break;
+        };
+        *slot = byte;
         count += 1;
     }
     count
 }
 
-// The field that follows a blank at `at`. Its bytes go to the start of `bytes`.
-pub fn decode(line: &[u8], at: usize, bytes: &mut [u8]) -> Field
-    ensures { result.count ≤ length bytes.old }
+// The bytes of the field that follows a blank at the start of a line, which go to the start of
+// `bytes`, and the rest of the line.
+pub fn decode<'a, 'b>(line: &'a [u8], bytes: &'b mut [u8]) -> (&'b [u8], &'a [u8])
+    ensures { length result.0.now ≤ length bytes.old }
 {
-    if at >= line.len() {
-        return Field { count: 0, next: at };
-    }
-    let start = at + 1;
-    let count = decode_pairs(&line[start..], bytes);
-    Field {
-        count,
-        next: end_of(line, start),
-    }
+    let Some((_blank, rest)) = line.split_first() else {
+        return (&[], line);
+    };
+    let length = rest
+        .iter()
+        .position(|byte| *byte == b' ')
+        .unwrap_or(rest.len());
+    let (field, rest) = rest.split_at(length);
+    let count = decode_pairs(field, bytes);
+    (&bytes[..count], rest)
 }

@@ -5,22 +5,21 @@ ghost use Rattle.time.specs.arithmetic.{exact, quotient};
 
 use crate::Hertz;
 
-// What a sum, a product or a quotient comes to.
-#[derive(Clone, Copy)]
-pub enum Computed {
-    Exact(Hertz),
+// Why a sum, a product or a quotient is no frequency.
+#[derive(Clone, Copy, Debug, PartialEq, Eq)]
+pub enum ArithmeticError {
     // The result does not fit 32 bits.
     Overflow,
     ByZero,
 }
 
-fn in_32_bits(hertz: u64) -> Computed
+fn in_32_bits(hertz: u64) -> Result<Hertz, ArithmeticError>
     ensures { result ≡ exact hertz }
 {
     if hertz < 4294967296 {
-        Computed::Exact(Hertz(hertz as u32))
+        Ok(Hertz(hertz as u32))
     } else {
-        Computed::Overflow
+        Err(ArithmeticError::Overflow)
     }
 }
 
@@ -30,39 +29,35 @@ pub fn hz(hertz: u32) -> Hertz
     Hertz(hertz)
 }
 
-pub fn khz(kilohertz: u32) -> Computed
+pub fn khz(kilohertz: u32) -> Result<Hertz, ArithmeticError>
     ensures { result ≡ exact (kilohertz * 1000) }
 {
-    in_32_bits((kilohertz as u64) * 1000)
+    in_32_bits(u64::from(kilohertz) * 1000)
 }
 
-pub fn mhz(megahertz: u32) -> Computed
+pub fn mhz(megahertz: u32) -> Result<Hertz, ArithmeticError>
     ensures { result ≡ exact (megahertz * 1000000) }
 {
-    in_32_bits((megahertz as u64) * 1000000)
+    in_32_bits(u64::from(megahertz) * 1000000)
 }
 
-pub fn mul(f: Hertz, rhs: u32) -> Computed
+pub fn mul(f: Hertz, rhs: u32) -> Result<Hertz, ArithmeticError>
     ensures { result ≡ exact (f.0 * rhs) }
 {
-    let hertz = f.0;
-    in_32_bits((hertz as u64) * (rhs as u64))
+    in_32_bits(u64::from(f.0) * u64::from(rhs))
 }
 
-pub fn div(f: Hertz, rhs: u32) -> Computed
+pub fn div(f: Hertz, rhs: u32) -> Result<Hertz, ArithmeticError>
     ensures { result ≡ quotient f.0 rhs }
 {
     if rhs == 0 {
-        return Computed::ByZero;
+        return Err(ArithmeticError::ByZero);
     }
-    let hertz = f.0;
-    Computed::Exact(Hertz(hertz / rhs))
+    Ok(Hertz(f.0 / rhs))
 }
 
-pub fn add(f: Hertz, rhs: Hertz) -> Computed
+pub fn add(f: Hertz, rhs: Hertz) -> Result<Hertz, ArithmeticError>
     ensures { result ≡ exact (f.0 + rhs.0) }
 {
-    let left = f.0;
-    let right = rhs.0;
-    in_32_bits((left as u64) + (right as u64))
+    in_32_bits(u64::from(f.0) + u64::from(rhs.0))
 }

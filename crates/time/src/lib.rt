@@ -4,7 +4,7 @@
 pub mod arithmetic;
 
 ghost use Rattle.std.specs.Prelude.{◌≡◌};
-ghost use Rattle.time.specs.Frequency.{megahertz, hz_or};
+ghost use Rattle.time.specs.Frequency.{megahertz};
 ghost use Rattle.time.specs.MaybeHertz.{maybe, found};
 
 // A frequency in Hz.
@@ -15,31 +15,12 @@ pub struct Hertz(pub u32);
 #[derive(Clone, Copy)]
 pub struct Megahertz(pub u32);
 
-// What the reading of a frequency finds.
-#[derive(Clone, Copy)]
-pub enum Reading {
-    At(Hertz),
-    Unreadable,
-}
-
 impl Hertz {
     // The one way from Hz to whole MHz.
     pub fn whole_mhz(self) -> Megahertz
         ensures { result.0 ≡ megahertz self.0 }
     {
-        let hertz = self.0;
-        Megahertz(hertz / 1000000)
-    }
-}
-
-impl Reading {
-    pub fn unwrap_or(self, other: Hertz) -> Hertz
-        ensures { result.0 ≡ hz_or other.0 self }
-    {
-        let Reading::At(f) = self else {
-            return other;
-        };
-        f
+        Megahertz(self.0 / 1_000_000)
     }
 }
 
@@ -50,30 +31,29 @@ pub struct MaybeHertz(pub u32);
 impl MaybeHertz {
     pub const NONE: MaybeHertz = MaybeHertz(0);
 
-    // Called by nobody here.
-    pub fn to_hertz(self) -> Reading
+    pub fn to_hertz(self) -> Option<Hertz>
         ensures { result ≡ found self.0 }
     {
-        let hertz = self.0;
-        if hertz == 0 {
-            Reading::Unreadable
+        if self.0 == 0 {
+            None
         } else {
-            Reading::At(Hertz(hertz))
+            Some(Hertz(self.0))
         }
     }
+}
 
-    pub fn from_hertz(value: Hertz) -> MaybeHertz
-        ensures { result.0 ≡ value.0 }
-    {
+impl From<Hertz> for MaybeHertz {
+    ghost from_gives = { λ value maybe. maybe.0 ≡ value.0 };
+
+    fn from(value: Hertz) -> MaybeHertz {
         MaybeHertz(value.0)
     }
+}
 
-    pub fn from_reading(value: Reading) -> MaybeHertz
-        ensures { result.0 ≡ maybe value }
-    {
-        let Reading::At(f) = value else {
-            return MaybeHertz::NONE;
-        };
-        MaybeHertz(f.0)
+impl From<Option<Hertz>> for MaybeHertz {
+    ghost from_gives = { λ value result. result.0 ≡ maybe value };
+
+    fn from(value: Option<Hertz>) -> MaybeHertz {
+        value.map_or(MaybeHertz::NONE, |f| MaybeHertz(f.0))
     }
 }

@@ -3,6 +3,7 @@ use mathlib.Core.Path.{◌≡◌, refl, sym}
 use mathlib.Core.Bool.{Bool, true, false, cond}
 use borrow.Author.Tests.{eqb-true}
 use lib.Dec.{eqb}
+use Rattle.std.specs.Prelude.{Ok, Err}
 use Rattle.record.proofs.Refusals.{none_refused, not_refused, not_refused_unless}
 use Rattle.plan.specs.declared.Plan.{Plan}
 use Rattle.plan.specs.Plan.{legal}
@@ -10,7 +11,6 @@ use Rattle.plan_clocks.specs.Clocks.{maybe_whole_hz, sys_hz, hclk_hz, pclk1_hz, 
 use Rattle.limits.specs.Limits.{core_on_absent_dll1, core_on_dbl96, flash_on_absent_dll, usb_on_absent_dll2}
 use Rattle.limits.specs.Limits.{usb_not60, dll1_core_too_slow, hclk_too_fast, pclk1_too_fast, pclk2_too_fast, dll2_too_fast}
 use Rattle.verdict.specs.tests.{plan_tests, plan_refusal}
-use Rattle.verdict.specs.declared.Verdict.TheVariants.{Accepted, Refused}
 use Rattle.verdict.specs.Verdict.{verdict_of, number_of}
 
 -- an accepted plan passed each test
@@ -52,6 +52,6 @@ pub number_is : (p : Plan) → number_of (verdict_of p) ≡ plan_refusal p
 unfolding verdict_of
 number_is p = by (eqb (plan_refusal p) 0) refl
   where
-    by : (t : Bool) → eqb (plan_refusal p) 0 ≡ t → number_of (cond t (Accepted (target_of p)) (Refused (plan_refusal p))) ≡ plan_refusal p
+    by : (t : Bool) → eqb (plan_refusal p) 0 ≡ t → number_of (cond t (Ok (target_of p)) (Err (plan_refusal p))) ≡ plan_refusal p
     by true e = sym (eqb-true (plan_refusal p) 0 e)
     by false e = refl

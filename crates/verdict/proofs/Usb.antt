@@ -5,8 +5,8 @@ use mathlib.Core.Bool.{Bool, true, false, cond, not, ◌&&◌, false≢true}
 use native.Mathlib.Omega.{arith}
 use lib.Dec.{eqb}
 use borrow.Author.Tests.{eqb-true, not-false}
-use Rattle.clock.specs.declared.MaybeDll.{MaybeDll}
-use Rattle.clock.specs.declared.MaybeDll.TheVariants.{Absent, Present}
+use Rattle.std.specs.Prelude.{Option, None, Some}
+use Rattle.clock.specs.declared.Dll.{Dll}
 use Rattle.clock.proofs.Laws.{dll_least, dll_most}
 use Rattle.plan.specs.declared.Plan.{Plan}
 use Rattle.plan.specs.Code.{stage_of}
@@ -22,9 +22,9 @@ record InRange (f : ℕ) : Type 0 where
   least : 12000000 ≤ f
   most : f ≤ 384000000
 
-present_range : (d : MaybeDll) → is_absent d ≡ false → stage_of d ≤ 15 → InRange (maybe_hz d)
-present_range Absent e h = absurd (false≢true (sym e))
-present_range (Present d) e h = record { least = dll_least d.stage d.half; most = dll_most d.stage d.half h }
+present_range : (d : Option Dll) → is_absent d ≡ false → stage_of d ≤ 15 → InRange (maybe_hz d)
+present_range None e h = absurd (false≢true (sym e))
+present_range (Some d) e h = record { least = dll_least d.stage d.half; most = dll_most d.stage d.half h }
 
 sys_range : (p : Plan) → Passed p → InRange (sys_hz p)
 unfolding sys_hz core_on_absent_dll1

@@ -1,81 +1,67 @@
 -- `booking::release` meets its contract: the head's tests, 42, then the head without the task that the look-up found.
+use Prim.Native.Nat.{◌-◌}
 use mathlib.Core.Path.{◌≡◌, sym, ap, ◌∙◌}
 use mathlib.Core.Bool.{true, false}
 use native.Mathlib.Omega.{arith}
-use Rattle.record.specs.Refusals.{first_of}
+use Rattle.refusal.specs.declared.Refusal.TheVariants.{IdUnknown}
+use Rattle.record.proofs.Refusals.{only_test}
 use Rattle.task.specs.Task.{has_id}
 use Rattle.task.proofs.look_up.Laws.{is_hit, hit_in_use, HitAfter, on_hit}
 use Rattle.head.specs.declared.Head.{Head}
 use Rattle.head.specs.Head.{booked}
 use Rattle.head.specs.Record.{head_of}
-use Rattle.call.proofs.Ending.{call_unadmitted, call_refused, call_encodable, call_bytes, call_head}
-use Rattle.call.proofs.Changed.{call_changed}
-use Rattle.head.specs.tasks.{without_task}
+use Rattle.head.specs.tasks.{without_place, without_task}
 use Rattle.head.proofs.tasks.Holding.{booked_length}
 use Rattle.head.proofs.tasks.Places.{without_hit}
 use Rattle.head.proofs.tasks.Kept.{less_encodable}
-use Rattle.booking.specs.Release.{release_tests, release}
-use Rattle.booking.proofs.release.Goals.{After-without_place, In-Hit}
+use Rattle.call.proofs.Admitting.{head_is}
+use Rattle.call.proofs.Ending.{call_unadmitted, call_refused}
+use Rattle.call.proofs.Changed.{call_changed}
+use Rattle.booking.specs.Release.{release}
+use Rattle.booking.proofs.release.Goals.{After-release, In-Hit}
 use Rattle.booking.proofs.release.Goals as goal
 
 -- the task that the look-up found
-found : (c : In-Hit) → HitAfter c.args.id (booked c.admit_head-admitted.result.head) c.in-Hit.read
-found c =
-    on_hit (sym c.look_up.ensures ∙ c.in-Hit.is)
+found : (c : In-Hit) → HitAfter c.args.id (booked c.in_ok-m.m.head) c.in-Hit.read
+found c = on_hit (sym (rw c.booked.ensures at c.in-Hit.ensures))
 
-left : (c : After-without_place) → c.without_place.result ≡ without_task c.args.id c.admit_head-admitted.result.head
+left : (c : After-release) → c.release.new.head ≡ without_task c.args.id c.in_ok-m.m.head
 left c =
     let hit : In-Hit = search in
-    c.without_place.ensures ∙ without_hit c.args.id c.admit_head-admitted.result.head c.in-Hit.read (found hit)
+    let placed : c.release.new.head ≡ without_place (c.in-Hit.read - 1) c.in_ok-m.m.head = rw c.from-2.ensures at c.release.ensures in
+    placed ∙ without_hit c.args.id c.in_ok-m.m.head c.in-Hit.read (found hit)
 
-pub returns-then-admitted-ne0 : goal.returns-then-admitted-ne0
+pub returns-in_err-m : goal.returns-in_err-m
 unfolding release
-returns-then-admitted-ne0 c =
-    let args = c.args in
-    call_unadmitted c.admit_head-admitted.ensures (release_tests args.id (head_of args.buffer.now)) _ _ _ _ c.if-admitted-ne0.true c.refused.ensures
-
-pub look_up-requires : goal.look_up-requires
-look_up-requires c = (call_encodable c.admit_head-admitted.ensures c.if-admitted-ne0.false).room
+returns-in_err-m c = call_unadmitted c.in_err-m.ensures _ _ _ c.from_residual.ensures.1
 
 pub returns-in_default : goal.returns-in_default
-unfolding release first_of
+unfolding release
 returns-in_default c =
-    let args = c.args in
-    let admitted = c.admit_head-admitted.ensures in
-    let passed = c.if-admitted-ne0.false in
-    let none : has_id args.id (booked (head_of args.buffer.now)) ≡ false =
-    ap (λ (h : Head). has_id args.id (booked h)) (sym (call_head admitted passed))
-    ∙ (sym (hit_in_use _ _) ∙ (sym (ap is_hit c.look_up.ensures) ∙ ap is_hit c.in_default.is)) in
-    call_refused admitted (release_tests args.id (head_of args.buffer.now)) 41 _ _ _ _ passed (rw none) c.refused-in_default.ensures
+    let none : has_id c.args.id (booked (head_of c.args.buffer.now)) ≡ false =
+    ap (λ (h : Head). has_id c.args.id (booked h)) (sym (head_is c.in_ok-m.ensures)) ∙ (sym (hit_in_use _ _) ∙ ap is_hit (sym (rw c.booked.ensures at c.in_default.ensures))) in
+    call_refused c.in_ok-m.ensures _ IdUnknown _ _ (rw none (sym (only_test 42))) c.from.ensures
 
-pub overflow_sub-read : goal.overflow_sub-read
-overflow_sub-read c =
-    let hit = (goal.at.overflow_sub-read c).In-Hit in
-    omega (arith, (found hit).count)
+pub overflow_sub-from : goal.overflow_sub-from
+overflow_sub-from c =
+    let hit = (goal.at.overflow_sub-from c).In-Hit in
+    omega (arith, (found hit).count, c.from-2.ensures)
 
-pub without_place-requires : goal.without_place-requires
-without_place-requires c =
-    let hit = (goal.at.without_place-requires c).In-Hit in
-    let ok = call_encodable c.admit_head-admitted.ensures c.if-admitted-ne0.false in
-    record { encodable = ok; at_lt_count = omega (arith, (found hit).count, (found hit).within, booked_length _ ok) }
+pub release-requires-clause-at_lt_count : goal.release-requires-clause-at_lt_count
+release-requires-clause-at_lt_count c =
+    let hit = (goal.at.release-requires-clause-at_lt_count c).In-Hit in
+    omega (arith, (found hit).count, (found hit).within, c.from-2.ensures, booked_length _ c.in_ok-m.ensures.encodable)
 
-pub finish-requires : goal.finish-requires
-finish-requires c =
-    let taken_out = (goal.at.finish-requires c).After-without_place in
-    let admitted = c.admit_head-admitted.ensures in
-    let passed = c.if-admitted-ne0.false in
-    let ok = less_encodable c.args.id _ (call_encodable admitted passed) in
-    record { encodable = rw (c.start-m.ensures, left taken_out) ok; buffer_len = call_bytes admitted passed }
+pub finish-requires-clause-encodable : goal.finish-requires-clause-encodable
+finish-requires-clause-encodable c =
+    let taken_out = (goal.at.finish-requires-clause-encodable c).After-release in
+    let ok = less_encodable c.args.id _ c.in_ok-m.ensures.encodable in
+    rw (left taken_out) ok
 
 pub returns : goal.returns
-unfolding release first_of
+unfolding release
 returns c =
-    let taken_out = (goal.at.returns c).After-without_place in
-    let args = c.args in
-    let admitted = c.admit_head-admitted.ensures in
-    let passed = c.if-admitted-ne0.false in
-    let has : has_id args.id (booked (head_of args.buffer.now)) ≡ true =
-    ap (λ (h : Head). has_id args.id (booked h)) (sym (call_head admitted passed))
-    ∙ (sym (hit_in_use _ _) ∙ (sym (ap is_hit c.look_up.ensures) ∙ ap is_hit c.in-Hit.is)) in
-    let tests = release_tests args.id (head_of args.buffer.now) in
-    call_changed admitted tests (without_task args.id) _ _ _ _ passed (rw has) (left taken_out) c.start-m.ensures c.finish.ensures
+    let taken_out = (goal.at.returns c).After-release in
+    let has : has_id c.args.id (booked (head_of c.args.buffer.now)) ≡ true =
+    ap (λ (h : Head). has_id c.args.id (booked h)) (sym (head_is c.in_ok-m.ensures)) ∙ (sym (hit_in_use _ _) ∙ ap is_hit (sym (rw c.booked.ensures at c.in-Hit.ensures))) in
+    call_changed c.in_ok-m.ensures _ (without_task c.args.id) (rw has (only_test 0)) (left taken_out) c.finish.ensures

@@ -7,7 +7,7 @@ use native.Mathlib.Omega.{arith}
 use lib.Dec.{ltb}
 use borrow.Author.Tests.{le-leb, lt-ltb}
 use Rattle.record.specs.Bytes.{is_within}
-use Rattle.register.specs.Word.{word_bytes}
+use Rattle.register.specs.Word.{word_of, word_bytes}
 use Rattle.register.specs.Codes.{largest, fits_register}
 use Rattle.journal.specs.Run.{Effect, halted}
 use Rattle.journal.proofs.Ended.{Still, still_unless_ended, still_then, still_store, still_delay, still_measure}
@@ -18,6 +18,17 @@ use Rattle.calibration.specs.measure.{measurement, judged_difference}
 pub trim_fits : (v : ℕ) → v ≤ 1023 → fits_register 19 v ≡ true
 unfolding fits_register is_within word_bytes largest
 trim_fits v h = rw (lt-ltb v 16777216 (omega arith), le-leb (v / 65536 % 256) 0 (omega arith), le-leb (v / 256 % 256) 3 (omega arith), le-leb (v % 256) 255 (omega arith))
+
+-- what is stored besides trims fits its registers
+pub record SettingsFit : Type 0 where
+  pub length : fits_register 20 0x3fff ≡ true
+  pub clocks : fits_register 18 (word_of 0 3 3) ≡ true
+  pub on : fits_register 21 1 ≡ true
+  pub off : fits_register 21 0 ≡ true
+
+pub settings_fit : SettingsFit
+unfolding fits_register is_within word_bytes largest
+settings_fit = record { length = refl; clocks = refl; on = refl; off = refl }
 
 -- a call that has ended
 pub still_either : {f g : Effect} (t : Bool) → Still f → Still g → Still (cond t f g)

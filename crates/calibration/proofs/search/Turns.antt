@@ -1,15 +1,16 @@
 -- What the loop of the search keeps, turn by turn.
 use Prim.Native.Nat.{ℕ, suc, ◌+◌, ◌-◌, ◌*◌, ◌/◌, ◌<◌, ◌≤◌}
-use mathlib.Core.Path.{◌≡◌, ◌∙◌}
-use mathlib.Core.Bool.{cond}
+use mathlib.Core.Path.{◌≡◌, ap, ◌∙◌}
+use mathlib.Core.Bool.{true, cond}
 use mathlib.Core.List.{List}
 use native.Mathlib.Omega.{arith}
 use lib.Dec.{ltb}
 use lib.ListN.{length, get_or}
 use borrow.Author.Tests.{lt-ltb, le-ltb}
+use Rattle.std.specs.Option.{is_some}
 use Rattle.journal.specs.declared.Machine.{Machine}
 use Rattle.journal.specs.Run.{Run, Effect}
-use Rattle.journal.specs.Machine.{machine_of, Answers, taking, Lent, Does, DoesWithoutJournal}
+use Rattle.journal.specs.Machine.{State, state_of, machine_of, Answers, taking, Lent, Does, DoesWithoutJournal}
 use Rattle.journal.proofs.Does.{◌then◌, same_long, lent_after, does_as, does_within, takes_none, beside}
 use Rattle.journal.proofs.Ended.{ran_still}
 use Rattle.calibration.specs.measure.{measurement, difference, judged_difference}
@@ -38,9 +39,11 @@ module _ (trim step : ℕ) (a : List ℕ) (more : ℕ → ℕ → Effect) (m : M
   abbrev next : ℕ
   next = next_at trim step a m
 
-  adjusted_at : (r : Run) → m ≡ machine_of r → cond (ltb apart 64) (judged_difference apart r) (more next apart r) ≡ adjusted trim step a more r
+  adjusted_at : (r : Run) → state_of m ≡ machine_of r → cond (ltb apart 64) (judged_difference apart r) (more next apart r) ≡ adjusted trim step a more r
   unfolding adjusted
-  adjusted_at r q = rw q
+  adjusted_at r q =
+      let taken : m.taken ≡ r.taken = ap (λ (w : State). w.taken) q in
+      rw taken
 
   pub does_good : {k : ℕ} {m' : Machine} {j j' : List ℕ} {x : Answers} → apart < 64 →
       Does k (judged_difference apart) m m' j j' x → Does k (adjusted trim step a more) m m' j j' x
@@ -86,7 +89,7 @@ module _ {a : List ℕ} {m₀ : Machine} {j₀ : List ℕ} {m : Machine} {j : Li
         s.rest (rw one (does_within (omega arith) (measured then y)))
 
     -- one that 34 or 36 cut short
-    pub short_turn : (m₁.stop ≡ 0 → ⊥) → Searched a m₀ m₁ j₀ j₁
+    pub short_turn : is_some m₁.stop ≡ true → Searched a m₀ m₁ j₀ j₁
     short_turn e =
         let still = still_adjusted trim step a left (λ t e'. still_search (11 - (n + 1)) t (step / 2) e' a) in
         turn (record { ran = ran_still still m₁ j₁ e; room = omega arith; encodable = after.encodable; answers = after.answers })

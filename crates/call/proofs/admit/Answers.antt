@@ -6,8 +6,8 @@ use Rattle.call.proofs.admit.Goals as goal
 
 pub returns-then-journal-lt-JOURNAL_WORDS : goal.returns-then-journal-lt-JOURNAL_WORDS
 unfolding first_of
-returns-then-journal-lt-JOURNAL_WORDS c = admits_refused 16 _ _ _ (simp (lt-ltb _ _ c.if-journal-lt-JOURNAL_WORDS.true)) c.unadmitted.ensures
+returns-then-journal-lt-JOURNAL_WORDS c = admits_refused (simp (lt-ltb _ _ c.if-journal-lt-JOURNAL_WORDS.true))
 
 pub returns : goal.returns
 unfolding first_of
-returns c = admits_as _ _ _ _ (simp (le-ltb _ _ c.if-journal-lt-JOURNAL_WORDS.false)) c.admit_head.ensures
+returns c = admits_as (simp (le-ltb _ _ c.if-journal-lt-JOURNAL_WORDS.false)) c.admit_head.ensures

@@ -6,11 +6,9 @@ use mathlib.Core.List.{List, [], ◌∷◌}
 use native.Mathlib.Omega.{arith}
 use lib.Dec.{eqb, lit<}
 use borrow.Author.Tests.{eqb-true, eq-eqb, le-leb}
+use Rattle.std.specs.Prelude.{Option, Some, None}
 use Rattle.record.specs.Bytes.{is_within, bit}
-use Rattle.time.specs.declared.Reading.TheVariants.{Unreadable}
 use Rattle.clock.specs.declared.Dll.{Dll}
-use Rattle.clock.specs.declared.MaybeDll.{MaybeDll}
-use Rattle.clock.specs.declared.MaybeDll.TheVariants.{Absent, Present}
 use Rattle.clock.specs.Clock.{divided}
 use Rattle.clock.proofs.Laws.{divided_most}
 use Rattle.plan.specs.declared.Plan.{Plan}
@@ -105,9 +103,9 @@ abbrev pub dll_word : Dll → ℕ
 dll_word d = word_of 1 (bit d.half) d.stage
 
 -- the DLL1 that a plan has, once it is set
-abbrev pub Locked : MaybeDll → ℕ → Type 0
-Locked Absent w = Unit {0}
-Locked (Present d) w = w ≡ dll_word d
+abbrev pub Locked : Option Dll → ℕ → Type 0
+Locked None w = Unit {0}
+Locked (Some d) w = w ≡ dll_word d
 
 -- no flash select needs DLL1; the former selects `w` are served by DLL1 as it is; they would be by any that is on
 abbrev Free : Regs → Type 0
@@ -202,7 +200,7 @@ module _ (h : Head) (w : ℕ) {s t f top : ℕ} where
       (dll_fit h (word_of 0 (byte_b (x 3)) (byte_c (x 3))) x a q.0 q.2, (q.0, λ d on. flash_on w (x 3) d (x 4) on q.1, q.2)))
 
   on_safe : (d : Dll) → d.stage ≤ 15 → (r : Run) → Progress h s t f top (λ (x : Regs). Free x × Could w x × (x 1 ≡ 1)) r →
-      Progress h s t f top (λ (x : Regs). Free x × Was w x × (x 1 ≡ 1) × Locked (Present d) (x 3)) (dll_on 3 d r)
+      Progress h s t f top (λ (x : Regs). Free x × Was w x × (x 1 ≡ 1) × Locked (Some d) (x 3)) (dll_on 3 d r)
   unfolding dll_on
   on_safe d l = progress_store h 3 (λ (x : Regs). dll_word d) (lit< tt) refl (λ _ _. (on_word d l).fits) (λ x a q.
       (dll_fit h (dll_word d) x a q.0 q.2, (q.0, q.1 (dll_word d) (on_word d l).on, q.2, refl)))
@@ -220,16 +218,16 @@ polled (x ∷ a) = by (eqb x 0) (poll a) (polled a)
 
 -- (4)
 module _ (h : Head) (w : ℕ) {f top : ℕ} (a : List ℕ) where
-  pub dll1_safe : (m : MaybeDll) → ((d : Dll) → m ≡ Present d → d.stage ≤ 15) → (r : Run) → Progress h 0 0 f top (λ (x : Regs). Free x × Was w x × (x 1 ≡ 1)) r →
+  pub dll1_safe : (m : Option Dll) → ((d : Dll) → m ≡ Some d → d.stage ≤ 15) → (r : Run) → Progress h 0 0 f top (λ (x : Regs). Free x × Was w x × (x 1 ≡ 1)) r →
       Progress h (stop_for m a) (taken_for m a) f top (λ (x : Regs). Free x × Was w x × (x 1 ≡ 1) × Locked m (x 3)) (planned_dll1 m a r)
   unfolding configure_dll set_dll relocked
-  dll1_safe Absent l r c = progress_now h r (λ b q. (b, (q.0, q.1, q.2, tt))) c
-  dll1_safe (Present d) l r c =
+  dll1_safe None l r c = progress_now h r (λ b q. (b, (q.0, q.1, q.2, tt))) c
+  dll1_safe (Some d) l r c =
       let r1 = vddpsw_on (hpbg_on r) in
       let c1 = vddpsw_safe h w (λ x u q. q) (hpbg_on r) (hpbg_safe h w (λ x u q. q) r c) in
       let r2 = dll_on 3 d (dll_off 3 r1) in
       let c2 = on_safe h w d (l d refl) (dll_off 3 r1) (off_safe h w r1 c1) in
-      subst (λ (n : ℕ). Progress h n (taken_for (Present d) a) f top (λ (x : Regs). Free x × Was w x × (x 1 ≡ 1) × Locked (Present d) (x 3)) (planned_dll1 (Present d) a r))
+      subst (λ (n : ℕ). Progress h n (taken_for (Some d) a) f top (λ (x : Regs). Free x × Was w x × (x 1 ≡ 1) × Locked (Some d) (x 3)) (planned_dll1 (Some d) a r))
       (polled a) (progress_wait h 3 a (delay 10 r2) (progress_delay h 10 r2 c2))
 
 -- a plan's dividers
@@ -258,15 +256,15 @@ module _ (h : Head) (p : Plan) (ok : Passed p) (y : Ready p h) where
       k : Coded p
       k = codes_of_lem p ok.test_3
 
-      go : (s : ℕ) (m : MaybeDll) → s ≤ 3 → (eqb s 3 && is_absent m) ≡ false → eqb s 2 ≡ false → (s ≡ 0 → h.hrc48_ready ≡ true) →
-          ((d : Dll) → m ≡ Present d → d.stage ≤ 15) → Locked m d →
-          divided_reading (cond (eqb s 0) (ready_reading h.hrc48_ready) (cond (eqb s 1) (ready_reading h.hxt48_ready) (cond (eqb s 3) (dll_reading d) Unreadable))) p.hdiv
+      go : (s : ℕ) (m : Option Dll) → s ≤ 3 → (eqb s 3 && is_absent m) ≡ false → eqb s 2 ≡ false → (s ≡ 0 → h.hrc48_ready ≡ true) →
+          ((d : Dll) → m ≡ Some d → d.stage ≤ 15) → Locked m d →
+          divided_reading (cond (eqb s 0) (ready_reading h.hrc48_ready) (cond (eqb s 1) (ready_reading h.hxt48_ready) (cond (eqb s 3) (dll_reading d) None))) p.hdiv
           ≡ hertz (divided (cond (eqb s 3) (maybe_hz m) 48000000) p.hdiv)
       go zero m a b c r g l = rw (r refl)
       go (suc zero) m a b c r g l = rw y.hxt48
       go (suc (suc zero)) m a b c r g l = absurd (apart c)
-      go (suc (suc (suc zero))) Absent a b c r g l = absurd (apart b)
-      go (suc (suc (suc zero))) (Present n) a b c r g l = let o = on_word n (g n refl) in rw (l, o.on, o.half, o.stage)
+      go (suc (suc (suc zero))) None a b c r g l = absurd (apart b)
+      go (suc (suc (suc zero))) (Some n) a b c r g l = let o = on_word n (g n refl) in rw (l, o.on, o.half, o.stage)
       go (suc (suc (suc (suc s)))) m a b c r g l = absurd (omega arith)
 
   module _ (w : ℕ) {s t f top : ℕ} where

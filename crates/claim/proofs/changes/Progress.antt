@@ -8,7 +8,8 @@ use lib.Dec.{eqb, leb}
 use lib.ListN.{length, drop, set, length-set}
 use lib.Seq.{get_or-set_other}
 use borrow.Author.Tests.{eqb-true, eqb-false}
-use Rattle.time.specs.declared.Reading.{Reading}
+use Rattle.std.specs.Prelude.{Option}
+use Rattle.time.specs.declared.Hertz.{Hertz}
 use Rattle.register.specs.Codes.{fits_register}
 use Rattle.register.proofs.Fits.{fits_word}
 use Rattle.head.specs.declared.Head.{Head}
@@ -131,8 +132,8 @@ module _ (h : Head) where
         went z e =
             let reads : hclk_of r.head ≡ hertz f = ap hclk_of c.kept.rest ∙ (c.here z).0.reads in
             let m = subst (Moments (SafeAt h) h.regs) (unless_ended_on delaying r e) (moments_delay (SafeAt h) h.regs us r c.kept.moments) in
-            subst (λ (a : Reading). Progress s t f top Q (delayed a us r)) (sym reads) (record {
-              kept = on_same_head r _ c.kept refl (subst (λ (a : Reading). Moments (SafeAt h) h.regs (delayed a us r)) reads m);
+            subst (λ (a : Option Hertz). Progress s t f top Q (delayed a us r)) (sym reads) (record {
+              kept = on_same_head r _ c.kept refl (subst (λ (a : Option Hertz). Moments (SafeAt h) h.regs (delayed a us r)) reads m);
               stops = c.stops;
               takes = c.takes;
               here = c.here;

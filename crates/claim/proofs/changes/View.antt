@@ -8,9 +8,9 @@ use lib.Dec.{eqb}
 use lib.ListN.{length, get_or, set}
 use lib.Seq.{get_or-set_same, get_or-set_other}
 use borrow.Author.Tests.{leb-true, le-leb, eqb-true, eqb-false}
+use Rattle.std.specs.Prelude.{Option, Some, None}
 use Rattle.record.proofs.Bytes.{and_left, and_right}
-use Rattle.time.specs.declared.Reading.{Reading}
-use Rattle.time.specs.declared.Reading.TheVariants.{At, Unreadable}
+use Rattle.time.specs.declared.Hertz.{Hertz}
 use Rattle.register.specs.Word.{byte_a, byte_b, byte_c}
 use Rattle.head.specs.declared.Head.{Head}
 use Rattle.clock_read.specs.Hpsys.{reg, hertz, ready_reading, dll_reading, divided_reading, sys_of, hclk_of}
@@ -43,13 +43,13 @@ pub record Flash (w dll1 dll2 : ℕ) : Type 0 where
 
 module _ (h : Head) where
   -- HCLK by registers 1 to 3, LPSYS HCLK by 25 and 26
-  abbrev pub clock_of : ℕ → ℕ → ℕ → Reading
+  abbrev pub clock_of : ℕ → ℕ → ℕ → Option Hertz
   clock_of s w d =
       divided_reading
-      (cond (eqb s 0) (ready_reading h.hrc48_ready) (cond (eqb s 1) (ready_reading h.hxt48_ready) (cond (eqb s 3) (dll_reading d) Unreadable)))
+      (cond (eqb s 0) (ready_reading h.hrc48_ready) (cond (eqb s 1) (ready_reading h.hxt48_ready) (cond (eqb s 3) (dll_reading d) None)))
       (byte_a w)
 
-  abbrev low_of : ℕ → ℕ → Reading
+  abbrev low_of : ℕ → ℕ → Option Hertz
   low_of s w = divided_reading (source_reading s h) (byte_a w)
 
   abbrev pub rail : Regs → ℕ
@@ -85,11 +85,11 @@ begun h e =
     let cd = and_right b (c && d) bcd in
     go (hclk_of h) refl (and_left a (b && (c && d)) e) (and_left b (c && d) bcd) (and_left c d cd) (and_right c d cd)
   where
-    go : (r : Reading) → hclk_of h ≡ r → within r (rail_limit h) ≡ true → source_is_on (byte_b (reg h 5)) (reg h 3) (reg h 4) ≡ true →
+    go : (r : Option Hertz) → hclk_of h ≡ r → within r (rail_limit h) ≡ true → source_is_on (byte_b (reg h 5)) (reg h 3) (reg h 4) ≡ true →
         source_is_on (byte_c (reg h 5)) (reg h 3) (reg h 4) ≡ true → lpsys_fit (lpsys_hclk_of h) (reg h 28) ≡ true → Begun h
-    go (At f) q w b c d = record {
+    go (Some f) q w b c d = record {
       hz = f.0;
       at = q;
       fit = record { reads = q; below = omega arith; rails = leb-true f.0 (rail_limit h) w; flash = record { one = b; two = c }; low = d };
     }
-    go Unreadable q w b c d = let z : ◌≡◌ {A = ℕ} 0 1 = cc in absurd (omega arith)
+    go None q w b c d = let z : ◌≡◌ {A = ℕ} 0 1 = cc in absurd (omega arith)

@@ -8,13 +8,11 @@ use native.Mathlib.Decide.{dec_lt}
 use lib.ListN.{drop}
 use lib.Dec.{eqb, leb}
 use borrow.Author.Tests.{leb-true, ltb-false, eqb-true, le-leb}
+use Rattle.std.specs.Prelude.{Option, Some, None}
 use Rattle.record.proofs.Bytes.{and_left, and_right, within_at}
 use Rattle.time.specs.Frequency.{hz_or}
-use Rattle.time.specs.declared.Reading.{Reading}
-use Rattle.time.specs.declared.Reading.TheVariants.{Unreadable}
+use Rattle.time.specs.declared.Hertz.{Hertz}
 use Rattle.clock.specs.declared.Dll.{Dll}
-use Rattle.clock.specs.declared.MaybeDll.{MaybeDll}
-use Rattle.clock.specs.declared.MaybeDll.TheVariants.{Absent, Present}
 use Rattle.clock.specs.Clock.{dll_hz, divided}
 use Rattle.clock.proofs.Laws.{dll_least, dll_most, divided_least}
 use Rattle.plan.specs.Code.{largest_of_plan}
@@ -109,12 +107,12 @@ clock_dll : (s : ℕ) (half : Bool) (d : ℕ) → s ≤ 15 → d ≤ 255 → Clo
 clock_dll s half d p h = record { positive = omega (arith, divided_least 12000000 (dll_hz s half) d h (dll_least s half)); clean = dll_whole s half d p }
 
 -- a source whose clock behind the divider `d` is such a one
-data Source (d : ℕ) : Reading → Type 0 where
+data Source (d : ℕ) : Option Hertz → Type 0 where
   reads : (f : ℕ) → Clock (divided f d) → Source d (hertz f)
-  none : Source d Unreadable
+  none : Source d None
 
 module _ (d : ℕ) where
-  by_cond : (t : Bool) {x y : Reading} → Source d x → Source d y → Source d (cond t x y)
+  by_cond : (t : Bool) {x y : Option Hertz} → Source d x → Source d y → Source d (cond t x y)
   by_cond true p q = p
   by_cond false p q = q
 
@@ -133,7 +131,7 @@ module _ (d : ℕ) where
         (by_cond (eqb (reg g 1) 1) (ready_source g.hxt48_ready)
         (by_cond (eqb (reg g 1) 3) (dll_source (reg g 3) (dll1_stage g ok)) none))
 
-  source_clock : {r : Reading} (f : ℕ) → Source d r → divided_reading r d ≡ hertz f → Clock f
+  source_clock : {r : Option Hertz} (f : ℕ) → Source d r → divided_reading r d ≡ hertz f → Clock f
   source_clock f (reads g c) q = subst Clock (ap (hz_or 0) q) c
   source_clock f none q = let z : ◌≡◌ {A = ℕ} 0 1 = cc in absurd (omega arith)
 
@@ -148,7 +146,7 @@ pub record Coded (p : Plan) : Type 0 where
   pub hdiv : p.hdiv ≤ 255
   pub pdiv1 : p.pdiv1 ≤ 7
   pub pdiv2 : p.pdiv2 ≤ 7
-  pub stage : (d : Dll) → p.dll1 ≡ Present d → d.stage ≤ 15
+  pub stage : (d : Dll) → p.dll1 ≡ Some d → d.stage ≤ 15
 
 pub codes_of_lem : (p : Plan) → legal p ≡ true → Coded p
 unfolding legal encoded
@@ -161,9 +159,9 @@ pub target_clock : (p : Plan) → Passed p → hclk_hz p ≤ limit_hz (mode_at (
 unfolding hclk_hz sys_hz hclk_too_fast core_on_absent_dll1
 target_clock p ok = go (eqb p.sys 3) p.dll1 (codes_of_lem p ok.test_3).stage ok.test_4 (ltb-false 240000000 (hclk_hz p) ok.test_11)
   where
-    go : (t : Bool) (m : MaybeDll) → ((d : Dll) → m ≡ Present d → d.stage ≤ 15) → (t && is_absent m) ≡ false → WholeMegahertz (divided (cond t (maybe_hz m) 48000000) p.hdiv)
-    go true Absent c e = absurd (apart e)
-    go true (Present d) c e = dll_whole d.stage d.half p.hdiv (c d refl)
+    go : (t : Bool) (m : Option Dll) → ((d : Dll) → m ≡ Some d → d.stage ≤ 15) → (t && is_absent m) ≡ false → WholeMegahertz (divided (cond t (maybe_hz m) 48000000) p.hdiv)
+    go true None c e = absurd (apart e)
+    go true (Some d) c e = dll_whole d.stage d.half p.hdiv (c d refl)
     go false m c e = whole_48 p.hdiv
 
 -- the higher of two modes

@@ -2,8 +2,7 @@
 use Prim.Native.Nat.{ℕ}
 use mathlib.Core.Path.{◌≡◌, subst}
 use mathlib.Core.List.{List}
-use Rattle.call.specs.declared.Answer.{Answer}
-use Rattle.call.specs.Call.{Answers}
+use Rattle.call.specs.Call.{Answer, Answers}
 use Rattle.claim.specs.Claim.{Call, perform}
 
 -- a call made on the bytes that the one before left

@@ -9,4 +9,4 @@ returns-then-divider-eq0 c = simp (eq-eqb _ _ c.if-divider-eq0.true)
 
 pub returns : goal.returns
 unfolding divided
-returns c = simp (ne_eqb _ _ c.if-divider-eq0.false)
+returns c = simp (ne_eqb _ _ c.if-divider-eq0.false, c.from.ensures)

@@ -36,18 +36,18 @@ all_passed true true false w e = absurd (omega arith)
 all_passed true true true false e = absurd (omega arith)
 
 -- the three tests of the lengths
-pub fits_length : (b : List ℕ) → length_fits b ≡ true → length b ≡ buffer_bytes
+fits_length : (b : List ℕ) → length_fits b ≡ true → length b ≡ buffer_bytes
 unfolding length_fits
 fits_length b e = eqb-true (length b) buffer_bytes (and_left (eqb (length b) buffer_bytes) (leb (count_in b) most_tasks && eqb (two_bytes (get_or b 0 0) (get_or b 1 0)) (length_of (count_in b))) e)
 
-pub fits_count : (b : List ℕ) → length_fits b ≡ true → count_in b ≤ most_tasks
+fits_count : (b : List ℕ) → length_fits b ≡ true → count_in b ≤ most_tasks
 unfolding length_fits
 fits_count b e =
     let u = leb (count_in b) most_tasks in
     let v = eqb (two_bytes (get_or b 0 0) (get_or b 1 0)) (length_of (count_in b)) in
     leb-true (count_in b) most_tasks (and_left u v (and_right (eqb (length b) buffer_bytes) (u && v) e))
 
-pub fits_field : (b : List ℕ) → length_fits b ≡ true → two_bytes (get_or b 0 0) (get_or b 1 0) ≡ length_of (count_in b)
+fits_field : (b : List ℕ) → length_fits b ≡ true → two_bytes (get_or b 0 0) (get_or b 1 0) ≡ length_of (count_in b)
 unfolding length_fits
 fits_field b e =
     let u = leb (count_in b) most_tasks in

@@ -1,11 +1,13 @@
 -- What decoding answers.
-use Rattle.std.specs.Prelude.{ℕ, ◌≡◌, cond, List, eqb}
+use Rattle.std.specs.Prelude.{◌≡◌, List, ℕ, Result, IfOk}
+use Rattle.refusal.specs.declared.Refusal.{Refusal}
+use Rattle.refusal.specs.Refusal.{number_of}
+use Rattle.head.specs.declared.Head.{Head}
 use Rattle.head.specs.Encodable.{Encodable}
-use Rattle.head.specs.declared.from_bytes.Decoded.{Decoded}
-use Rattle.head.specs.Record.{head_refusal, head_of, blank}
+use Rattle.head.specs.Record.{head_refusal, head_of}
 
--- the answer of decoding the bytes `b`: the refusal, and the head where there is none
-pub record Decodes (b : List ℕ) (r : Decoded) : Type 0 where
-  pub refusal : r.refusal ≡ head_refusal b
-  pub head : r.head ≡ cond (eqb (head_refusal b) 0) (head_of b) blank
-  pub encodable : head_refusal b ≡ 0 → Encodable r.head
+-- the answer of decoding the bytes `b`: the refusal, or where there is none the head
+pub record Decodes (b : List ℕ) (r : Result Head Refusal) : Type 0 where
+  pub refusal : number_of r ≡ head_refusal b
+  pub head : IfOk r (λ h. h ≡ head_of b)
+  pub encodable : IfOk r Encodable

@@ -13,10 +13,10 @@ returns-in_default c =
 
 pub cycles-requires : goal.cycles-requires
 cycles-requires c =
-    let reads = sym c.get_hclk_freq.ensures ∙ c.in-At.is in
+    let reads = sym c.get_hclk_freq.ensures ∙ c.in-Some.is in
     (most_at (subst (Most 384000000) reads (most_hclk _ c.requires.lent.encodable)), c.requires.us_bound)
 
 pub returns : goal.returns
 returns c =
-    let reads = sym c.get_hclk_freq.ensures ∙ c.in-At.is in
+    let reads = sym c.get_hclk_freq.ensures ∙ c.in-Some.is in
     does_as (λ r q. rw c.cycles.ensures.0 (delay_reads _ _ _ reads r q)) (omega arith) c.write.ensures

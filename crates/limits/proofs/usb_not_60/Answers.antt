@@ -2,10 +2,10 @@
 use Rattle.limits.specs.Limits.{usb_not60}
 use Rattle.limits.proofs.usb_not_60.Goals as goal
 
-pub returns-then-not-usb : goal.returns-then-not-usb
+pub returns-then-usb : goal.returns-then-usb
 unfolding usb_not60
-returns-then-not-usb c = simp (c.if-not-usb.true)
+returns-then-usb c = simp c.if-usb.true
 
-pub returns : goal.returns
+pub returns-else-usb : goal.returns-else-usb
 unfolding usb_not60
-returns c = simp (c.if-not-usb.false)
+returns-else-usb c = simp c.if-usb.false

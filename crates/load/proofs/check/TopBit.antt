@@ -4,7 +4,7 @@ use mathlib.Core.Path.{◌≡◌, refl}
 use mathlib.Core.List.{List}
 use lib.Dec.{ltb}
 use lib.ListN.{length, get_or, drop}
-use borrow.Author.Tests.{ltb-false, ne_eqb}
+use borrow.Author.Tests.{ltb-false}
 use Rattle.record.specs.Bytes.{Bytes}
 use Rattle.record.proofs.Items.{items_length, items_at}
 use Rattle.record.proofs.Refusals.{none_refused, not_refused}
@@ -29,10 +29,8 @@ listed_in_bytes b bytes k h =
 
 -- clear on a load
 pub load_clear : (b : List ℕ) → Bytes b → check_refusal b ≡ 0 → check_word (load_check b) < 2 ^ 63
-unfolding check_word
 load_clear b bytes e = rw (← accepts b e) (load_small (listed_tasks b) (listed_few b e) (listed_in_bytes b bytes))
 
 -- set on a refusal, with its number below it
 pub refusal_set : (b : List ℕ) → (check_refusal b ≡ 0 → ⊥) → check_word (load_check b) ≡ 2 ^ 63 + check_refusal b
-unfolding check_word
-refusal_set b z = rw (← refuses b (check_refusal b) z refl, ne_eqb (check_refusal b) 0 z)
+refusal_set b z = rw (← refuses b (check_refusal b) z refl)

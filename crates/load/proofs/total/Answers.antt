@@ -1,29 +1,14 @@
-use Rattle.std.proofs.Common.{arith}
-use Rattle.load.proofs.Sums.{Turn, next, over, sum_fits}
-use Rattle.load.proofs.total.Goals.{After-share-sum}
+-- `load::total` meets its contract: what is summed are the shares of the tasks.
+use mathlib.Core.Path.{◌∙◌}
+use Rattle.std.proofs.Common.{rules, tests}
+use Rattle.std.proofs.lemmas.Iterator.{YieldsList-from_slice, YieldsList-from_map}
+use Rattle.std.proofs.lemmas.Iterator.Consumers.{sum_by_from_yields_List}
+use Rattle.load.proofs.Sums.{share_of_task, sum_load}
 use Rattle.load.proofs.total.Goals as goal
-
--- the state after a turn
-after : (c : After-share-sum) → Turn c.args.tasks.now
-after c =
-    let l = c.loop-i in
-    let x : Turn c.args.tasks.now = record { at = l.i; sum = l.sum; within = l.invariant.0; left = l.invariant.1.0; small = l.invariant.1.1 } in
-    next c.args.tasks.now x c.share-sum.result (omega arith) c.share-sum.ensures.share (omega (arith, c.share-sum.ensures.small))
-
-pub overflow_add-sum : goal.overflow_add-sum
-unfolding after
-overflow_add-sum c =
-    let h = sum_fits c.args.tasks.now (after (goal.at.overflow_add-sum c).After-share-sum) c.requires in
-    omega (arith, h)
-
-pub loop-i-preserved : goal.loop-i-preserved
-unfolding after
-loop-i-preserved c =
-    let y = after (goal.at.loop-i-preserved c).After-share-sum in
-    (y.within, (y.left, y.small))
 
 pub returns : goal.returns
 returns c =
-    let l = c.loop-i in
-    let x : Turn c.args.tasks.now = record { at = l.i; sum = l.sum; within = l.invariant.0; left = l.invariant.1.0; small = l.invariant.1.1 } in
-    over c.args.tasks.now x (omega arith)
+    let ts = c.args.tasks.now in
+    sum_by_from_yields_List share_of_task ts c.map.result _ c.sum.ensures.ran
+    (YieldsList-from_map _ share_of_task (YieldsList-from_slice ts (cc)) c.map.ensures.closure (λ x r q k. search (rules, tests)))
+    ∙ sum_load ts

@@ -1,17 +1,10 @@
--- 43 by what LPSYS HCLK reads, as the code sees it.
-use mathlib.Core.Path.{◌≡◌, refl, ap, sym, ◌∙◌}
-use Rattle.time.specs.declared.Hertz.{Hertz}
-use Rattle.time.specs.declared.Reading.TheVariants.{At, Unreadable}
-use Rattle.clock_read.specs.lpsys.{lpsys_hclk_of}
+-- An effect of a function that is lent no journal, as the head decides it.
+use mathlib.Core.Path.{ap}
+use Rattle.head.specs.declared.Head.{Head}
 use Rattle.journal.specs.declared.Machine.{Machine}
-use Rattle.journal.specs.Run.{Run, idle, halted}
-use Rattle.journal.specs.Machine.{machine_of}
-use Rattle.lpsys_request.specs.slow.{refuse_unread}
+use Rattle.journal.specs.Run.{Run, Effect}
+use Rattle.journal.specs.Machine.{State, DoesWithoutJournal}
+use Rattle.journal.proofs.Does.{alone_as}
 
-pub unread_is : (m : Machine) → lpsys_hclk_of m.head ≡ Unreadable → (r : Run) → m ≡ machine_of r → halted 43 r ≡ refuse_unread r
-unfolding refuse_unread
-unread_is m e r q = let none : lpsys_hclk_of r.head ≡ Unreadable = ap (λ (w : Machine). lpsys_hclk_of w.head) (sym q) ∙ e in rw none refl
-
-pub read_is : (m : Machine) (f : Hertz) → lpsys_hclk_of m.head ≡ At f → (r : Run) → m ≡ machine_of r → idle r ≡ refuse_unread r
-unfolding refuse_unread
-read_is m f e r q = let reads : lpsys_hclk_of r.head ≡ At f = ap (λ (w : Machine). lpsys_hclk_of w.head) (sym q) ∙ e in rw reads refl
+pub alone_by_head : (F : Head → Effect) {m m' : Machine} → DoesWithoutJournal (F m.head) m m' → DoesWithoutJournal (λ (r : Run). F r.head r) m m'
+alone_by_head F = alone_as (λ r q. ap (λ (w : State). F w.head r) q)

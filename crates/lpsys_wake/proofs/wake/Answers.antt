@@ -5,4 +5,4 @@ use Rattle.lpsys_wake.proofs.wake.Goals as goal
 
 pub returns : goal.returns
 unfolding wake
-returns c = c.wake_first-m.ensures then c.delay_us-m.ensures then c.wait_for-m.ensures then beside c.count_up.ensures
+returns c = c.wake_first.ensures then c.delay_us.ensures then c.wait_for.ensures then beside c.count_up.ensures

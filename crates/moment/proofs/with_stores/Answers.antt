@@ -6,4 +6,4 @@ use Rattle.head.specs.Head.{with_registers}
 use Rattle.moment.proofs.with_stores.Goals as goal
 
 pub returns : goal.returns
-returns c = ap (λ (l : List ℕ). with_registers l c.args.head) c.replay-stored.ensures
+returns c = ap (λ (l : List ℕ). with_registers l c.args.head) c.replay-head.ensures

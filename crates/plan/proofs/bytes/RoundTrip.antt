@@ -7,13 +7,12 @@ use native.Mathlib.Omega.{arith}
 use lib.Dec.{eqb}
 use lib.ListN.{get_or}
 use borrow.Author.Tests.{eqb-true}
+use Rattle.std.specs.Prelude.{Result, Ok, Err}
 use Rattle.record.specs.Refusals.{first_of}
 use Rattle.record.proofs.Lists.{by_place}
 use Rattle.plan.specs.codes.{coded}
 use Rattle.plan.proofs.codes.Laws.{bit_back, flag_back, dll_back, dll_settled, at_most, dll1_bytes, dll2_bytes}
 use Rattle.plan.specs.declared.Plan.{Plan}
-use Rattle.plan.specs.declared.bytes.Decoded.{Decoded}
-use Rattle.plan.specs.declared.bytes.Decoded.TheVariants.{Read, Unread}
 use Rattle.plan.specs.Plan.{encoded, legal}
 use Rattle.plan.specs.bytes.{record_refusal, plan_of, decoded}
 use Rattle.plan.proofs.bytes.WellFormed.{well_formed}
@@ -44,20 +43,20 @@ record_refusal_lem p = simp (dll_settled p.dll1, dll_settled p.dll2) (by (legal 
     by false = refl
 
 -- what is read from bytes is their plan
-pub read_is : (b : List ℕ) (p : Plan) → decoded b ≡ Read p → (record_refusal b ≡ 0) × (plan_of b ≡ p)
+pub read_is : (b : List ℕ) (p : Plan) → decoded b ≡ Ok p → (record_refusal b ≡ 0) × (plan_of b ≡ p)
 unfolding decoded
 read_is b p e = by (eqb (record_refusal b) 0) refl e
   where
-    by : (t : Bool) → eqb (record_refusal b) 0 ≡ t → cond t (Read (plan_of b)) (Unread (record_refusal b)) ≡ Read p → (record_refusal b ≡ 0) × (plan_of b ≡ p)
+    by : (t : Bool) → eqb (record_refusal b) 0 ≡ t → cond t (Ok (plan_of b)) (Err (record_refusal b)) ≡ Ok p → (record_refusal b ≡ 0) × (plan_of b ≡ p)
     by true q h = (eqb-true (record_refusal b) 0 q, cc)
     by false q h = let z : ◌≡◌ {A = ℕ} 0 1 = cc in absurd (omega arith)
 
 -- encoding a decoded plan gives the bytes
-pub encode_decode : (b : List ℕ) (p : Plan) → decoded b ≡ Read p → encoded p ≡ b
+pub encode_decode : (b : List ℕ) (p : Plan) → decoded b ≡ Ok p → encoded p ≡ b
 encode_decode b p e = let r = read_is b p e in ap encoded (sym r.1) ∙ record_back b r.0
 
 -- a decoded plan is legal
-pub read_legal : (b : List ℕ) (p : Plan) → decoded b ≡ Read p → legal p ≡ true
+pub read_legal : (b : List ℕ) (p : Plan) → decoded b ≡ Ok p → legal p ≡ true
 read_legal b p e = by (legal p) (sym (record_refusal_lem p) ∙ (ap record_refusal (encode_decode b p e) ∙ (read_is b p e).0))
   where
     by : (t : Bool) → cond {A = ℕ} t 0 3 ≡ 0 → t ≡ true
@@ -65,10 +64,10 @@ read_legal b p e = by (legal p) (sym (record_refusal_lem p) ∙ (ap record_refus
     by false q = absurd (omega arith)
 
 -- decoding an encoded plan gives the plan, 3 where a field is outside its codes
-pub decode_encode : (p : Plan) → decoded (encoded p) ≡ cond (legal p) (Read p) (Unread 3)
+pub decode_encode : (p : Plan) → decoded (encoded p) ≡ cond (legal p) (Ok p) (Err 3)
 unfolding decoded
 decode_encode p = simp (record_refusal_lem p, plan_back p) (by (legal p))
   where
-    by : (t : Bool) → cond {A = Decoded} (eqb (cond t 0 3) 0) (Read p) (Unread (cond t 0 3)) ≡ cond t (Read p) (Unread 3)
+    by : (t : Bool) → cond {A = Result Plan ℕ} (eqb (cond t 0 3) 0) (Ok p) (Err (cond t 0 3)) ≡ cond t (Ok p) (Err 3)
     by true = refl
     by false = refl

@@ -4,14 +4,15 @@ use mathlib.Core.Path.{◌≡◌, refl, sym}
 use mathlib.Core.Bool.{Bool, true, false, ◌&&◌, ◌||◌}
 use mathlib.Core.List.{List}
 use native.Mathlib.Omega.{arith}
+use mir.Val.{bool_byte}
 use lib.Dec.{eqb}
 use lib.ListN.{get_or, drop}
 use lib.Seq.{get_or-drop}
 use borrow.Author.Tests.{eqb-true, eqb-false}
 use Rattle.record.specs.Bytes.{is_within, bit}
 use Rattle.record.proofs.Bytes.{and_left, and_right, within_at}
-use Rattle.clock.specs.declared.MaybeDll.{MaybeDll}
-use Rattle.clock.specs.declared.MaybeDll.TheVariants.{Absent, Present}
+use Rattle.std.specs.Prelude.{Option, None, Some}
+use Rattle.clock.specs.declared.Dll.{Dll}
 use Rattle.plan.specs.Code.{largest_of_plan, present_of, stage_of, half_of}
 use Rattle.plan.specs.codes.{dll_bytes_legal, coded, dll_of}
 
@@ -29,6 +30,11 @@ bit_back x h = by (eqb x 1) refl
 pub flag_back : (b : Bool) → eqb (bit b) 1 ≡ b
 flag_back true = refl
 flag_back false = refl
+
+-- a flag's byte, as `u8::from` gives it
+pub bool_byte_is : (b : Bool) → bool_byte b ≡ bit b
+bool_byte_is true = refl
+bool_byte_is false = refl
 
 -- the bytes of a DLL and back
 pub record DllBytes (present stage half : ℕ) : Type 0 where
@@ -48,15 +54,15 @@ dll_bytes p s h hp hh = by (eqb p 1) refl
         let p0 = bit_back p hp in
         record { present_is = simp e (rw e at p0); stage_is = simp e (sym s0); half_is = simp e (sym h0) }
 
-pub dll_back : (d : MaybeDll) → dll_of (present_of d) (stage_of d) (half_of d) ≡ d
+pub dll_back : (d : Option Dll) → dll_of (present_of d) (stage_of d) (half_of d) ≡ d
 unfolding dll_of
-dll_back Absent = refl
-dll_back (Present d) = simp (flag_back d.half)
+dll_back None = refl
+dll_back (Some d) = simp (flag_back d.half)
 
-pub dll_settled : (d : MaybeDll) → dll_bytes_legal (present_of d) (stage_of d) (half_of d) ≡ true
+pub dll_settled : (d : Option Dll) → dll_bytes_legal (present_of d) (stage_of d) (half_of d) ≡ true
 unfolding dll_bytes_legal
-dll_settled Absent = refl
-dll_settled (Present d) = refl
+dll_settled None = refl
+dll_settled (Some d) = refl
 
 -- what the codes of a record say of its bytes
 module _ (b : List ℕ) (ok : coded b ≡ true) where

@@ -3,10 +3,10 @@ use borrow.Author.Tests.{eq-eqb, ne_eqb}
 use Rattle.plan_clocks.specs.Clocks.{sys_hz}
 use Rattle.plan_clocks.proofs.sysclk.Goals as goal
 
-pub returns-then-sys-ne-DLL1 : goal.returns-then-sys-ne-DLL1
+pub returns-then-p-eq-DLL1 : goal.returns-then-p-eq-DLL1
 unfolding sys_hz
-returns-then-sys-ne-DLL1 c = simp (ne_eqb _ _ c.if-sys-ne-DLL1.true)
+returns-then-p-eq-DLL1 c = simp (eq-eqb _ _ c.if-p-eq-DLL1.true, c.dll_freq.ensures)
 
-pub returns : goal.returns
+pub returns-else-p-eq-DLL1 : goal.returns-else-p-eq-DLL1
 unfolding sys_hz
-returns c = simp (eq-eqb _ _ c.if-sys-ne-DLL1.false, c.dll_freq.ensures)
+returns-else-p-eq-DLL1 c = simp (ne_eqb _ _ c.if-p-eq-DLL1.false)

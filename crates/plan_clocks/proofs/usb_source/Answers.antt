@@ -3,10 +3,10 @@ use borrow.Author.Tests.{eq-eqb, ne_eqb}
 use Rattle.plan_clocks.specs.Clocks.{usb_hz}
 use Rattle.plan_clocks.proofs.usb_source.Goals as goal
 
-pub returns-then-usbsel-ne-USB_DLL2 : goal.returns-then-usbsel-ne-USB_DLL2
+pub returns-then-p-eq-USB_DLL2 : goal.returns-then-p-eq-USB_DLL2
 unfolding usb_hz
-returns-then-usbsel-ne-USB_DLL2 c = simp (ne_eqb _ _ c.if-usbsel-ne-USB_DLL2.true, c.requires.1)
+returns-then-p-eq-USB_DLL2 c = simp (eq-eqb _ _ c.if-p-eq-USB_DLL2.true, c.dll_freq.ensures)
 
-pub returns : goal.returns
+pub returns-else-p-eq-USB_DLL2 : goal.returns-else-p-eq-USB_DLL2
 unfolding usb_hz
-returns c = simp (eq-eqb _ _ c.if-usbsel-ne-USB_DLL2.false, c.dll_freq.ensures)
+returns-else-p-eq-USB_DLL2 c = simp (ne_eqb _ _ c.if-p-eq-USB_DLL2.false, c.requires.1)

@@ -100,14 +100,14 @@ const LARGEST: [u8; layout::CODED_SIZE] = [
 ];
 
 // Whether each register and ready flag is within its codes.
+#[tactic(auto, unfolding(crate::specs::Codes::largest))]
 pub fn within(buffer: &[u8]) -> bool
     requires { length buffer.now ≡ buffer_bytes }
     ensures { result ≡ is_within (take coded_size (drop register_size buffer.now)) (drop register_size largest) }
 {
-    let largest = LARGEST;
     record::within(
         &buffer[layout::REGISTER_SIZE..layout::BOOT_MODE_AT],
-        &largest,
+        &LARGEST,
     )
 }
 
@@ -116,13 +116,7 @@ pub fn fits(n: usize, word: u32) -> bool
     requires { (0 < n) × ((n < 35) × (word < 16777216)) }
     ensures { result ≡ fits_register n word }
 {
-    let bytes = [
-        crate::a(word) as u8,
-        crate::b(word) as u8,
-        crate::c(word) as u8,
-    ];
-    let largest = LARGEST;
     let at = layout::REGISTER_SIZE * (n - 1);
     let end = at + layout::REGISTER_SIZE;
-    record::within(&bytes, &largest[at..end])
+    record::within(&word.to_be_bytes()[1..], &LARGEST[at..end])
 }

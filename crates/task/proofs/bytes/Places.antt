@@ -1,6 +1,6 @@
 -- Laws of the places of tasks.
 use Prim.Native.Nat.{ℕ, ◌-◌}
-use mathlib.Core.Path.{◌≡◌}
+use mathlib.Core.Path.{◌≡◌, ap, ◌∙◌}
 use mathlib.Core.List.{List}
 use lib.ListN.{length, take, drop, replicate}
 use lib.Seq.{take_at}
@@ -9,6 +9,12 @@ use Rattle.layout.specs.Layout.{most_tasks, first_task, task_size}
 use Rattle.task.specs.declared.Task.{Task}
 use Rattle.task.specs.Task.{no_task}
 use Rattle.task.specs.bytes.{task_in, count_in, tasks_in, placed, places_in}
+
+-- a task of zeros is a place with none
+pub none_of_zeros : (t : Task) → t.id ≡ 0 → t.cycles ≡ 0 → t.period ≡ 0 → t ≡ no_task
+none_of_zeros t i c p =
+    let task : ℕ → ℕ → ℕ → Task = λ x y z. record { id = x; cycles = y; period = z } in
+    ap (λ (n : ℕ). task n t.cycles t.period) i ∙ (ap (λ (n : ℕ). task 0 n t.period) c ∙ ap (task 0 0) p)
 
 -- as many tasks as the count says
 pub tasks_length : (b : List ℕ) → length (tasks_in b) ≡ count_in b

@@ -1,7 +1,9 @@
--- What a loop over the tasks in bytes goes by: the task at its place, and the rest of them.
-use Prim.Native.Nat.{ℕ, ◌+◌, ◌*◌, ◌≤◌, ◌<◌}
-use mathlib.Core.Path.{◌≡◌, ap, ◌∙◌}
-use mathlib.Core.Bool.{true, false, not, ◌&&◌, ◌||◌}
+-- What a test of the tasks in bytes goes by: the task at its place, and the rest of them.
+use Prim.Native.Nat.{ℕ, zero, suc, ◌+◌, ◌*◌, ◌<◌}
+use mathlib.Core.Path.{◌≡◌, ap, sym, ◌∙◌}
+use mathlib.Core.Bool.{Bool, not, ◌&&◌, ◌||◌}
+use native.Mathlib.Omega.{arith}
+use Rattle.std.specs.List.{list_all, list_any, range_with_len}
 use mathlib.Core.List.{List, [], ◌∷◌}
 use native.Mathlib.Nat.{add-zero}
 use native.Mathlib.Numerals.{add-one}
@@ -27,30 +29,39 @@ module _ (size : ℕ) (b : List ℕ) (n i : ℕ) (l : i < n) where
   rest_step : drop i (tasks size b n) ≡ task_in (drop (size * i) b) ∷ drop (i + 1) (tasks size b n)
   rest_step = rw add-one (drop-cons (tasks size b n) i no_task (rw items_length l) ∙ rw (items_at task_in size n b i no_task l))
 
-  pub all_step : all_ok (drop i (tasks size b n)) ≡ (task_ok (task_in (drop (size * i) b)) && all_ok (drop (i + 1) (tasks size b n)))
+  all_step : all_ok (drop i (tasks size b n)) ≡ (task_ok (task_in (drop (size * i) b)) && all_ok (drop (i + 1) (tasks size b n)))
   unfolding all_ok
   all_step = ap all_ok rest_step
 
-  pub has_step : (id : ℕ) → has_id id (drop i (tasks size b n)) ≡ (eqb (get_or b (size * i) 0) id || has_id id (drop (i + 1) (tasks size b n)))
+  has_step : (id : ℕ) → has_id id (drop i (tasks size b n)) ≡ (eqb (get_or b (size * i) 0) id || has_id id (drop (i + 1) (tasks size b n)))
   unfolding has_id
   has_step id = ap (has_id id) rest_step ∙ rw id_at
 
-  pub distinct_step : distinct (drop i (tasks size b n)) ≡ (not (has_id (get_or b (size * i) 0) (drop (i + 1) (tasks size b n))) && distinct (drop (i + 1) (tasks size b n)))
+  distinct_step : distinct (drop i (tasks size b n)) ≡ (not (has_id (get_or b (size * i) 0) (drop (i + 1) (tasks size b n))) && distinct (drop (i + 1) (tasks size b n)))
   unfolding distinct
   distinct_step = ap distinct rest_step ∙ rw id_at
 
-module _ (size : ℕ) (b : List ℕ) (n i : ℕ) (l : n ≤ i) where
-  rest_none : drop i (tasks size b n) ≡ []
-  rest_none = drop_of_length-le (tasks size b n) {i = i} (rw items_length l)
+-- the tests of the tasks from `i` on, of which there are `k`, each by its place
+module _ (size : ℕ) (b : List ℕ) (n : ℕ) where
+  none_left : (i : ℕ) → i + 0 ≡ n → drop i (tasks size b n) ≡ []
+  none_left i e = drop_of_length-le (tasks size b n) {i = i} (rw items_length (omega arith))
 
-  pub all_none : all_ok (drop i (tasks size b n)) ≡ true
+  pub all_by_place : (k i : ℕ) → i + k ≡ n → list_all (λ (j : ℕ). task_ok (task_in (drop (size * j) b))) (range_with_len i k) ≡ all_ok (drop i (tasks size b n))
   unfolding all_ok
-  all_none = ap all_ok rest_none
+  all_by_place zero i e = sym (ap all_ok (none_left i e))
+  all_by_place (suc k) i e =
+      ap (λ (r : Bool). task_ok (task_in (drop (size * i) b)) && r) (all_by_place k (i + 1) (omega arith)) ∙ sym (all_step size b n i (omega arith))
 
-  pub has_none : (id : ℕ) → has_id id (drop i (tasks size b n)) ≡ false
+  pub has_by_place : (id k i : ℕ) → i + k ≡ n → list_any (λ (j : ℕ). eqb (get_or b (size * j) 0) id) (range_with_len i k) ≡ has_id id (drop i (tasks size b n))
   unfolding has_id
-  has_none id = ap (has_id id) rest_none
+  has_by_place id zero i e = sym (ap (has_id id) (none_left i e))
+  has_by_place id (suc k) i e =
+      ap (λ (r : Bool). eqb (get_or b (size * i) 0) id || r) (has_by_place id k (i + 1) (omega arith)) ∙ sym (has_step size b n i (omega arith) id)
 
-  pub distinct_none : distinct (drop i (tasks size b n)) ≡ true
+  pub distinct_by_place : (k i : ℕ) → i + k ≡ n →
+      list_all (λ (j : ℕ). not (has_id (get_or b (size * j) 0) (drop (j + 1) (tasks size b n)))) (range_with_len i k) ≡ distinct (drop i (tasks size b n))
   unfolding distinct
-  distinct_none = ap distinct rest_none
+  distinct_by_place zero i e = sym (ap distinct (none_left i e))
+  distinct_by_place (suc k) i e =
+      ap (λ (r : Bool). not (has_id (get_or b (size * i) 0) (drop (i + 1) (tasks size b n))) && r) (distinct_by_place k (i + 1) (omega arith))
+      ∙ sym (distinct_step size b n i (omega arith))

@@ -1,19 +1,28 @@
--- The walk of a look-up in the first `n` tasks of a list: `i` are read, and none of them has the id.
-use Prim.Native.Nat.{ℕ, suc, ◌+◌, ◌≤◌, ◌<◌}
-use mathlib.Core.Path.{◌≡◌, ◌∙◌}
-use mathlib.Core.Bool.{true, false}
-use mathlib.Core.List.{List, ◌∷◌}
+-- A look-up by the place of the first task that has the id.
+use Prim.Native.Nat.{ℕ, ◌+◌}
+use mathlib.Core.Path.{◌≡◌, refl, ap, ◌∙◌}
+use mathlib.Core.Bool.{Bool, true, false}
+use mathlib.Core.List.{List, [], ◌∷◌}
 use native.Mathlib.Omega.{arith}
-use native.Mathlib.Nat.{add-zero, zero-add, add_assoc}
-use native.Mathlib.Numerals.{add-one}
+use native.Mathlib.Nat.{add_assoc, zero-add}
+use Rattle.std.proofs.lemmas.Iterator.Adapters.{position_from-zero}
 use lib.Dec.{eqb}
-use lib.ListN.{length, get_or, take, drop, drop_of_length-le}
-use lib.Seq.{drop-cons, get_or-take, length-take-le}
+use lib.ListN.{length}
+use Rattle.std.specs.List.{position, position_from}
+use Rattle.std.specs.declared.option.Option.{Option}
+use Rattle.std.specs.declared.option.Option.TheVariants.{None, Some}
 use Rattle.task.specs.declared.Task.{Task}
 use Rattle.task.specs.declared.look_up.LookUp.{LookUp}
 use Rattle.task.specs.declared.look_up.LookUp.TheVariants.{Hit, Miss}
-use Rattle.task.specs.Task.{no_task}
 use Rattle.task.specs.look_up.{after, look_up}
+
+abbrev pub has : ℕ → Task → Bool
+has id t = eqb t.id id
+
+-- what a place found says of `n` tasks
+abbrev pub told : ℕ → Option ℕ → LookUp
+told n (Some at) = Hit (at + 1)
+told n None = Miss n
 
 after_none : (l : LookUp) → after 0 l ≡ l
 after_none (Hit read) = rw (zero-add read)
@@ -23,26 +32,22 @@ after_after : (m n : ℕ) (l : LookUp) → after m (after n l) ≡ after (m + n)
 after_after m n (Hit read) = rw (add_assoc m n read)
 after_after m n (Miss read) = rw (add_assoc m n read)
 
-module _ (ts : List Task) (n id : ℕ) where
-  -- the answer is that of a look-up in the rest
-  abbrev pub Walked : ℕ → Type 0
-  Walked i = after i (look_up id (drop i (take n ts))) ≡ look_up id (take n ts)
+module _ (id : ℕ) where
+  -- the same of tasks that stand behind `i` others
+  abbrev pub Behind : ℕ → List Task → Type 0
+  Behind i ts = told (i + length ts) (position_from (has id) i ts) ≡ after i (look_up id ts)
 
-  pub walk_begins : Walked 0
-  walk_begins = after_none (look_up id (take n ts))
+  behind_first : (i : ℕ) (t : Task) (ts : List Task) (b : Bool) → eqb t.id id ≡ b → Behind (i + 1) ts → Behind i (t ∷ ts)
+  unfolding look_up
+  behind_first i t ts true e later = rw e refl
+  behind_first i t ts false e later =
+      let n : i + 1 + length ts ≡ i + length (t ∷ ts) = omega arith in
+      rw (e, after_after i 1 (look_up id ts), ← n) later
 
-  module _ (i : ℕ) (h : n ≤ length ts) (walked : Walked i) where
-    rest : i < n → drop i (take n ts) ≡ get_or ts i no_task ∷ drop (suc i) (take n ts)
-    rest l = drop-cons (take n ts) i no_task (rw length-take-le (omega arith)) ∙ rw get_or-take
+  behind : (i : ℕ) (ts : List Task) → Behind i ts
+  unfolding look_up
+  behind i [] = refl
+  behind i (t ∷ ts) = behind_first i t ts (eqb t.id id) refl (behind (i + 1) ts)
 
-    pub walk_hits : i < n → eqb (get_or ts i no_task).id id ≡ true → Hit (i + 1) ≡ look_up id (take n ts)
-    unfolding look_up
-    walk_hits l e = rw (rest l, e) at walked
-
-    pub walk_goes_on : i < n → eqb (get_or ts i no_task).id id ≡ false → Walked (i + 1)
-    unfolding look_up
-    walk_goes_on l e = rw (add-one i) (rw (rest l, e, after_after i 1 (look_up id (drop (suc i) (take n ts))), add-one i) at walked)
-
-    pub walk_ends : n ≤ i → Miss i ≡ look_up id (take n ts)
-    unfolding look_up
-    walk_ends l = rw (drop_of_length-le (take n ts) {i = i} (omega (arith, length-take-le n ts h)), add-zero i) at walked
+  pub look_up_by_place : (ts : List Task) → told (length ts) (position (has id) ts) ≡ look_up id ts
+  look_up_by_place ts = ap (told (length ts)) (position_from-zero (has id) ts) ∙ rw (zero-add, after_none) at (behind 0 ts)

@@ -1,16 +1,26 @@
-use borrow.Author.Rules.{rules}
-use native.Mathlib.Omega.{arith}
-use Rattle.waits.proofs.Polls.{found_step, found_here, found_end}
+-- `waits::first_ready` meets its contract: the place of the first ready answer among those left.
+use mathlib.Core.Path.{◌∙◌}
+use lib.Seq.{take_all}
+use lib.ListN.{length, drop, length-drop}
+use Rattle.std.proofs.Common.{rules, tests, arith}
+use Rattle.std.proofs.lemmas.Iterator.{YieldsList-from_slice}
+use Rattle.std.proofs.lemmas.Iterator.Search.{position_from_yields_List}
+use Rattle.journal.specs.Run.{poll}
+use Rattle.waits.specs.Found.{Found}
+use Rattle.waits.proofs.Polls.{ready, place, found_by_place}
+use Rattle.waits.proofs.first_ready.Goals.{After-position}
 use Rattle.waits.proofs.first_ready.Goals as goal
 
-pub loop-i-init : goal.loop-i-init
-loop-i-init c = (search rules, λ r f. f)
+by_place : (c : After-position) → Found c.args.answers.now c.args.from (place c.args.from (length c.args.answers.now) c.position.result) (poll (drop c.args.from c.args.answers.now))
+by_place c =
+    let a = c.args.answers.now in
+    let from = c.args.from in
+    let at = position_from_yields_List ready _ _ _ c.position.ensures.ran
+    (YieldsList-from_slice (drop from a) (c.iter.ensures.rest ∙ take_all _ (drop from a) (simp length-drop (omega arith)))) (λ x b q k. search (rules, tests)) in
+    rw at (found_by_place a from (omega arith))
 
-pub returns-then-answers-i-ne0 : goal.returns-then-answers-i-ne0
-returns-then-answers-i-ne0 c = c.loop-i.invariant.1 c.loop-i.i (found_here _ c.loop-i.i (search rules) c.if-answers-i-ne0.true)
+pub returns-in-Some : goal.returns-in-Some
+returns-in-Some c = rw c.in-Some.is at (by_place (goal.at.returns-in-Some c).After-position)
 
-pub loop-i-preserved : goal.loop-i-preserved
-loop-i-preserved c = (search rules, λ r f. c.loop-i.invariant.1 r (found_step _ c.loop-i.i r (search rules) c.if-answers-i-ne0.false f))
-
-pub returns : goal.returns
-returns c = c.loop-i.invariant.1 c.loop-i.i (found_end _ c.loop-i.i (omega arith))
+pub returns-in-None : goal.returns-in-None
+returns-in-None c = rw c.in-None.is at (by_place (goal.at.returns-in-None c).After-position)

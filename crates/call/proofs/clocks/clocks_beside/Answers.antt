@@ -1,20 +1,18 @@
--- `call::clocks::clocks_beside` meets its contract: the test picks the case, and the audio pair is set.
+-- `call::clocks::clocks_beside` meets its contract: the test picks the case, and the last two, the audio pair, are the former ones.
 use native.Mathlib.Omega.{arith}
-use mathlib.Core.Path.{◌≡◌, refl, ◌∙◌}
-use borrow.Author.Tests.{eq-eqb, ne_eqb}
-use lib.ListN.{length}
+use mathlib.Core.Path.{◌≡◌, sym, ◌∙◌}
+use mathlib.Core.List.{append-nil}
+use borrow.Author.Tests.{eq-eqb}
+use lib.ListN.{drop, length-drop}
+use lib.Seq.{take_all}
+use Rattle.refusal.proofs.Numbers.{none_is_0}
 use Rattle.readings.specs.Clocks.{clocks_of}
-use Rattle.call.proofs.clocks.Pair.{pair}
 use Rattle.call.proofs.clocks.clocks_beside.Goals as goal
-
-pub returns-then-stop-ne0 : goal.returns-then-stop-ne0
-returns-then-stop-ne0 c = rw (ne_eqb _ _ c.if-stop-ne0.true) refl
 
 pub returns : goal.returns
 unfolding clocks_of
 returns c =
-    let long : length c.args.former ≡ 15 = omega arith in rw (
-      eq-eqb _ _ c.if-stop-ne0.false,
-      c.numbers-clocks.ensures ∙ c.read_hpsys_clocks_from_hw.ensures,
-      pair c.args.former long,
-    ) refl
+    let former = c.args.former in
+    let read = c.numbers-clocks.ensures ∙ c.read_hpsys_clocks_from_hw.ensures in
+    let pair : c.copy_from_slice.new.self ≡ drop 13 former = c.copy_from_slice.ensures.after ∙ take_all 2 (drop 13 former) (simp length-drop (omega arith)) in
+    rw (eq-eqb _ _ (none_is_0 c.args.m.now.stop (sym c.if-is_some.ensures)), pair, read, append-nil (drop 13 former))

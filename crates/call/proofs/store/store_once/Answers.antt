@@ -1,31 +1,23 @@
 -- `call::store::store_once` meets its contract: the shared tests, the caller's, then the store.
 use native.Mathlib.Omega.{arith}
-use mathlib.Core.Path.{◌∙◌}
+use mathlib.Core.Path.{sym, ap, ◌∙◌}
 use mathlib.Core.List.{[], ◌∷◌}
+use Rattle.refusal.specs.Refusal.{number_of}
 use Rattle.record.proofs.Refusals.{only_test}
-use Rattle.call.proofs.Ending.{call_unadmitted, call_ran}
-use Rattle.call.proofs.Admitting.{call_bytes, lent_journal}
-use Rattle.call.proofs.store.Tests.{test_refused}
-use borrow.Author.Rules.{rules}
+use Rattle.call.proofs.Admitting.{lent_journal}
+use Rattle.call.proofs.Ending.{call_unadmitted, call_refused, call_ran}
 use Rattle.call.proofs.store.store_once.Goals as goal
 
-pub returns-then-admitted-ne0 : goal.returns-then-admitted-ne0
-returns-then-admitted-ne0 c = call_unadmitted c.admit-admitted.ensures (c.args.refusal ∷ []) _ _ _ _ c.if-admitted-ne0.true c.refused.ensures
+pub returns-in_err-m : goal.returns-in_err-m
+returns-in_err-m c = call_unadmitted c.in_err-m.ensures (number_of c.args.test ∷ []) _ _ c.from_residual.ensures.1
 
-pub returns-then-refusal-ne0 : goal.returns-then-refusal-ne0
-returns-then-refusal-ne0 c =
-    test_refused c.admit-admitted.ensures _ _ _ _ _ c.if-admitted-ne0.false c.if-refusal-ne0.true c.refused-then-refusal-ne0.ensures
+pub returns-in_err-test : goal.returns-in_err-test
+returns-in_err-test c =
+    call_refused c.in_ok-m.ensures (number_of c.args.test ∷ []) _ _ _ (sym (only_test _ ∙ ap number_of c.in_err-test.was)) c.from_residual-in_err-test.ensures.1
 
-pub store-m-requires : goal.store-m-requires
-store-m-requires c =
-    let lent = lent_journal _ _ 1 _ c.start.ensures (omega arith) c.admit-admitted.ensures c.if-admitted-ne0.false in
-    record { lent = lent; number_bound = (search rules, c.requires.1 c.if-refusal-ne0.false) }
-
-pub finish-requires : goal.finish-requires
-finish-requires c =
-    record { encodable = c.store-m.ensures.encodable; buffer_len = call_bytes c.admit-admitted.ensures c.if-admitted-ne0.false }
+pub store-requires-clause-lent : goal.store-requires-clause-lent
+store-requires-clause-lent c = lent_journal c.in_ok-m.ensures (omega arith)
 
 pub returns : goal.returns
 returns c =
-    let passed = only_test _ ∙ c.if-refusal-ne0.false in
-    call_ran c.admit-admitted.ensures (c.args.refusal ∷ []) _ _ _ _ _ _ _ _ c.if-admitted-ne0.false passed c.start.ensures c.store-m.ensures.ran c.finish.ensures
+    call_ran c.in_ok-m.ensures (number_of c.args.test ∷ []) (only_test _ ∙ ap number_of c.in_ok-test.was) c.store.ensures.ran c.finish.ensures

@@ -5,8 +5,8 @@ use Rattle.call.proofs.word.pack.Goals as goal
 
 pub returns-then-refusal-eq0 : goal.returns-then-refusal-eq0
 unfolding packed
-returns-then-refusal-eq0 c = simp (eq-eqb _ _ c.if-refusal-eq0.true)
+returns-then-refusal-eq0 c = rw (c.from.ensures, eq-eqb _ _ c.if-refusal-eq0.true)
 
 pub returns : goal.returns
 unfolding packed
-returns c = simp (ne_eqb _ _ c.if-refusal-eq0.false)
+returns c = rw (c.from-2.ensures, ne_eqb _ _ c.if-refusal-eq0.false)

@@ -2,10 +2,10 @@
 use Rattle.clock.specs.Clock.{dll_hz}
 use Rattle.clock.proofs.Dll.freq_hz.Goals as goal
 
-pub returns-then-half : goal.returns-then-half
+pub returns-then-self : goal.returns-then-self
 unfolding dll_hz
-returns-then-half c = simp c.if-half.true
+returns-then-self c = simp (c.if-self.true, c.from.ensures)
 
-pub returns-else-half : goal.returns-else-half
+pub returns-else-self : goal.returns-else-self
 unfolding dll_hz
-returns-else-half c = simp c.if-half.false
+returns-else-self c = simp (c.if-self.false, c.from.ensures)

@@ -8,5 +8,5 @@ use Rattle.head.proofs.to_bytes.encode.Goals as goal
 pub returns : goal.returns
 returns c =
     c.write-2.ensures
-    ∙ rw (c.write_state.ensures, c.write.ensures, c.write_front.ensures)
-    (record_laid c.args.head (search rules) (omega (arith, c.requires)) c.args.buffer.now (omega (arith, c.requires)))
+    ∙ rw (c.booked.ensures, c.write_state.ensures, c.write.ensures, c.write_front.ensures)
+    (record_laid c.args.head.now (search rules) (omega (arith, c.requires)) c.args.buffer.now (omega (arith, c.requires)))

@@ -1,11 +1,11 @@
 -- `limits::buses::pclk2_too_fast` meets its contract: the limit goes by HCLK.
 use Rattle.limits.specs.Limits.{pclk2_too_fast}
 use Rattle.limits.proofs.buses.pclk2_too_fast.Goals as goal
-
-pub returns-then-is_fast : goal.returns-then-is_fast
-unfolding pclk2_too_fast
-returns-then-is_fast c = simp (← c.is_fast.ensures, c.if-is_fast.true)
+use Rattle.limits.proofs.buses.pclk2_too_fast.Goals.{then-is_fast, else-is_fast}
 
 pub returns : goal.returns
 unfolding pclk2_too_fast
-returns c = simp (← c.is_fast.ensures, c.if-is_fast.false)
+returns c = elim c.if-is_fast.branch [
+  | then-is_fast w ↦ simp (w.most-is, ← c.is_fast.ensures, w.if-is_fast.true)
+  | else-is_fast w ↦ simp (w.most-is, ← c.is_fast.ensures, w.if-is_fast.false)
+]

@@ -1,17 +1,17 @@
 -- `limits::sources::flash_on_absent_dll` meets its contract.
-use borrow.Author.Tests.{eq-eqb, ne_eqb}
+use borrow.Author.Rules.{rules}
 use Rattle.limits.specs.Limits.{flash_on_absent_dll}
+use Rattle.limits.proofs.Absent.{none_is}
 use Rattle.limits.proofs.sources.flash_on_absent_dll.Goals as goal
 
-pub returns-then-select-eq-MPI_DLL1 : goal.returns-then-select-eq-MPI_DLL1
+pub returns-in-1 : goal.returns-in-1
 unfolding flash_on_absent_dll
-returns-then-select-eq-MPI_DLL1 c = simp (eq-eqb _ _ c.if-select-eq-MPI_DLL1.true, c.is_absent.ensures)
+returns-in-1 c = simp c.in-1.is (none_is _ _ c.is_none.ensures)
 
-pub returns-then-select-eq-MPI_DLL2 : goal.returns-then-select-eq-MPI_DLL2
+pub returns-in-2 : goal.returns-in-2
 unfolding flash_on_absent_dll
-returns-then-select-eq-MPI_DLL2 c =
-    simp (ne_eqb _ _ c.if-select-eq-MPI_DLL1.false, eq-eqb _ _ c.if-select-eq-MPI_DLL2.true, c.is_absent-then-select-eq-MPI_DLL2.ensures)
+returns-in-2 c = simp c.in-2.is (none_is _ _ c.is_none-in-2.ensures)
 
-pub returns : goal.returns
+pub returns-in_default : goal.returns-in_default
 unfolding flash_on_absent_dll
-returns c = simp (ne_eqb _ _ c.if-select-eq-MPI_DLL1.false, ne_eqb _ _ c.if-select-eq-MPI_DLL2.false)
+returns-in_default c = search rules

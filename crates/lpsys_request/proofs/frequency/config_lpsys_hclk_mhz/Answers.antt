@@ -1,35 +1,27 @@
 -- `lpsys_request::frequency::config_lpsys_hclk_mhz` meets its contract: the shared tests, 15, then the request.
-use Rattle.call.proofs.Admitting.{lent_journal}
 use native.Mathlib.Omega.{arith}
 use mathlib.Core.Path.{sym, ◌∙◌}
 use Rattle.record.proofs.Refusals.{only_test}
-use Rattle.call.proofs.Ending.{call_unadmitted, call_refused_by, call_ran, call_bytes}
-use Rattle.lpsys_tests.proofs.Laws.{request_range}
-use Rattle.lpsys_request.specs.frequency.{request_tests, lpsys_request}
+use Rattle.call.proofs.Admitting.{lent_journal}
+use Rattle.call.proofs.Ending.{call_unadmitted, call_refused, call_ran}
+use Rattle.lpsys_request.specs.frequency.{lpsys_request}
 use Rattle.lpsys_request.proofs.frequency.config_lpsys_hclk_mhz.Goals as goal
 
-pub returns-then-admitted-ne0 : goal.returns-then-admitted-ne0
+pub returns-in_err-m : goal.returns-in_err-m
 unfolding lpsys_request
-returns-then-admitted-ne0 c = call_unadmitted c.admit-admitted.ensures _ _ _ _ _ c.if-admitted-ne0.true c.refused.ensures
+returns-in_err-m c = call_unadmitted c.in_err-m.ensures _ _ _ c.from_residual.ensures.1
 
-pub returns-then-refusal-ne0 : goal.returns-then-refusal-ne0
+pub returns-in_err-test_request : goal.returns-in_err-test_request
 unfolding lpsys_request
-returns-then-refusal-ne0 c =
-    let test = only_test _ ∙ sym c.request_refusal-refusal.ensures in
-    call_refused_by c.admit-admitted.ensures (request_tests c.args.freq.0) _ _ _ _ _ c.if-admitted-ne0.false test c.if-refusal-ne0.true c.refused-then-refusal-ne0.ensures
+returns-in_err-test_request c =
+    let test = c.in_err-test_request.ensures ∙ sym (only_test _) in
+    call_refused c.in_ok-m.ensures _ _ _ _ test c.from_residual-in_err-test_request.ensures.1
 
-pub request-m-requires : goal.request-m-requires
-request-m-requires c =
-    let lent = lent_journal _ _ 6 _ c.start.ensures (omega arith) c.admit-admitted.ensures c.if-admitted-ne0.false in
-    record { lent = lent; le_freq = request_range _ (sym c.request_refusal-refusal.ensures ∙ c.if-refusal-ne0.false) }
-
-pub finish-requires : goal.finish-requires
-finish-requires c =
-    record { encodable = c.request-m.ensures.encodable; buffer_len = call_bytes c.admit-admitted.ensures c.if-admitted-ne0.false }
+pub request-requires-clause-lent : goal.request-requires-clause-lent
+request-requires-clause-lent c = lent_journal c.in_ok-m.ensures (omega arith)
 
 pub returns : goal.returns
 unfolding lpsys_request
 returns c =
-    let test = only_test _ ∙ sym c.request_refusal-refusal.ensures ∙ c.if-refusal-ne0.false in
-    call_ran c.admit-admitted.ensures (request_tests c.args.freq.0) _ _ _ _ _ _ _ _ c.if-admitted-ne0.false test c.start.ensures
-    c.request-m.ensures.ran c.finish.ensures
+    let test = only_test _ ∙ sym c.in_ok-test_request.ensures in
+    call_ran c.in_ok-m.ensures _ test c.request.ensures.ran c.finish.ensures

@@ -1,15 +1,8 @@
 -- `lpsys_request::hdiv::set_hdiv` meets its contract: the two exponents stay.
 use Rattle.journal.proofs.Does.{by_head}
 use Rattle.lpsys_request.specs.hdiv.{set_hdiv_on, set_hdiv}
-use Rattle.lpsys_request.proofs.hdiv.Fits.{hdiv_fits}
-use borrow.Author.Rules.{rules}
 use Rattle.lpsys_request.proofs.hdiv.set_hdiv.Goals as goal
-
-pub store-requires : goal.store-requires
-store-requires c =
-    let fits = hdiv_fits c.args.hdiv c.args.m.head (search rules) c.requires.encodable in
-    record { lent = search rules; number_bound = (search rules, simp (c.word-word.ensures, c.b.ensures, c.c.ensures) fits) }
 
 pub returns : goal.returns
 unfolding set_hdiv
-returns c = by_head (set_hdiv_on c.args.hdiv) (simp (c.word-word.ensures, c.b.ensures, c.c.ensures) at c.store.ensures)
+returns c = by_head (set_hdiv_on c.args.hdiv) (simp (c.word-word.ensures, c.from.ensures, c.b.ensures, c.c.ensures) at c.store.ensures)

@@ -1,11 +1,15 @@
 -- `lpsys_request::slow::refuse_unread` meets its contract: 43 where LPSYS HCLK does not read, else nothing.
-use mathlib.Core.Path.{sym, ◌∙◌}
-use Rattle.journal.proofs.Does.{alone_as, alone_nothing}
-use Rattle.lpsys_request.proofs.slow.Laws.{unread_is, read_is}
+use Rattle.head.specs.declared.Head.{Head}
+use Rattle.clock_read.specs.lpsys.{lpsys_hclk_of}
+use Rattle.journal.proofs.Does.{alone_nothing}
+use Rattle.lpsys_request.specs.slow.{unless_read, refuse_unread}
+use Rattle.lpsys_request.proofs.slow.Laws.{alone_by_head}
 use Rattle.lpsys_request.proofs.slow.refuse_unread.Goals as goal
 
-pub returns-in_default : goal.returns-in_default
-returns-in_default c = alone_as (unread_is _ (sym c.get_lpsys_hclk_freq.ensures ∙ c.in_default.is)) c.refuse.ensures
+pub returns-in-Some : goal.returns-in-Some
+unfolding refuse_unread
+returns-in-Some c = alone_by_head (λ (h : Head). unless_read (lpsys_hclk_of h)) (rw (← c.in-Some.ensures) (alone_nothing c.requires))
 
-pub returns : goal.returns
-returns c = alone_as (read_is _ _ (sym c.get_lpsys_hclk_freq.ensures ∙ c.in-At.is)) (alone_nothing c.requires)
+pub returns-in-None : goal.returns-in-None
+unfolding refuse_unread
+returns-in-None c = alone_by_head (λ (h : Head). unless_read (lpsys_hclk_of h)) (rw (← c.in-None.ensures) c.refuse.ensures)

@@ -3,16 +3,17 @@ use native.Mathlib.Omega.{arith}
 use borrow.Author.Tests.{lt-ltb, le-ltb}
 use Rattle.journal.proofs.Does.{by_head, does_nothing}
 use Rattle.lpsys_request.specs.slow.{slow_down_on, slow_down}
+use Rattle.lpsys_request.proofs.Readings.{hz_read}
 use Rattle.lpsys_request.proofs.slow.slow_down.Goals as goal
 
-pub returns-then-hertz-gt24000000 : goal.returns-then-hertz-gt24000000
+pub returns-then-f-gt-LIMIT : goal.returns-then-f-gt-LIMIT
 unfolding slow_down
-returns-then-hertz-gt24000000 c =
-    let above = simp (c.unwrap_or-f.ensures, c.get_lpsys_hclk_freq.ensures) at (lt-ltb 24000000 c.unwrap_or-f.result.0 (omega arith)) in
-    by_head slow_down_on (rw above c.request.ensures)
+returns-then-f-gt-LIMIT c =
+    let hertz = hz_read 0 c.get_lpsys_hclk_freq.ensures c.unwrap_or-f.ensures in
+    by_head slow_down_on (rw (hertz, lt-ltb 24000000 c.unwrap_or-f.result.0 (omega arith)) c.request.ensures)
 
-pub returns : goal.returns
+pub returns-else-f-gt-LIMIT : goal.returns-else-f-gt-LIMIT
 unfolding slow_down
-returns c =
-    let slow = simp (c.unwrap_or-f.ensures, c.get_lpsys_hclk_freq.ensures) at (le-ltb 24000000 c.unwrap_or-f.result.0 (omega arith)) in
-    by_head slow_down_on (rw slow (does_nothing c.requires))
+returns-else-f-gt-LIMIT c =
+    let hertz = hz_read 0 c.get_lpsys_hclk_freq.ensures c.unwrap_or-f.ensures in
+    by_head slow_down_on (rw (hertz, le-ltb 24000000 c.unwrap_or-f.result.0 (omega arith)) (does_nothing c.requires))

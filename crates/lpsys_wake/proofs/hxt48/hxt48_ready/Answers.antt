@@ -5,4 +5,4 @@ use Rattle.lpsys_wake.proofs.hxt48.hxt48_ready.Goals as goal
 
 pub returns : goal.returns
 unfolding hxt48_ready
-returns c = c.request_hxt48-m.ensures then c.request_lpsys_hxt48.ensures
+returns c = c.request_hxt48.ensures then c.request_lpsys_hxt48.ensures

@@ -1,12 +1,16 @@
 -- `plan::codes::dll` meets its contract: the test picks the case of `dll_of`.
-use borrow.Author.Tests.{eq-eqb, ne_eqb}
+use mathlib.Core.Path.{◌≡◌, refl, ◌∙◌}
+use mathlib.Core.Bool.{Bool, true, false, cond}
+use Rattle.std.specs.Prelude.{Some, None}
+use Rattle.std.specs.Bool.{then_some}
+use Rattle.clock.specs.declared.Dll.{Dll}
 use Rattle.plan.specs.codes.{dll_of}
 use Rattle.plan.proofs.codes.dll.Goals as goal
 
-pub returns-then-present-eq1 : goal.returns-then-present-eq1
-unfolding dll_of
-returns-then-present-eq1 c = simp (eq-eqb _ _ c.if-present-eq1.true)
+some_where : (d : Dll) (here : Bool) → then_some here d ≡ cond here (Some d) None
+some_where d true = refl
+some_where d false = refl
 
-pub returns-else-present-eq1 : goal.returns-else-present-eq1
+pub returns : goal.returns
 unfolding dll_of
-returns-else-present-eq1 c = simp (ne_eqb _ _ c.if-present-eq1.false)
+returns c = c.then_some.ensures ∙ some_where _ _

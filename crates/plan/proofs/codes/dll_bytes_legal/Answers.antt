@@ -11,6 +11,6 @@ pub returns-then-stage-eq0 : goal.returns-then-stage-eq0
 unfolding dll_bytes_legal
 returns-then-stage-eq0 c = simp (ne_eqb _ _ c.if-present-eq1.false, eq-eqb _ _ c.if-stage-eq0.true)
 
-pub returns : goal.returns
+pub returns-else-stage-eq0 : goal.returns-else-stage-eq0
 unfolding dll_bytes_legal
-returns c = simp (ne_eqb _ _ c.if-present-eq1.false, ne_eqb _ _ c.if-stage-eq0.false)
+returns-else-stage-eq0 c = simp (ne_eqb _ _ c.if-present-eq1.false, ne_eqb _ _ c.if-stage-eq0.false)

@@ -2,28 +2,18 @@
 use Rattle.record.proofs.Bytes.{rest_whole}
 use Rattle.plan.specs.codes.{coded}
 use Rattle.plan.proofs.codes.is_coded.Goals as goal
+use Rattle.plan.proofs.codes.is_coded.Goals.{then-within, else-within}
 
-pub returns-then-not-within : goal.returns-then-not-within
+pub returns-then-dll_bytes_legal : goal.returns-then-dll_bytes_legal
 unfolding coded
-returns-then-not-within c = simp (← (rw rest_whole at c.within.ensures), c.if-not-within.true)
+returns-then-dll_bytes_legal c = elim c.if-within.branch [
+  | then-within w ↦ simp (← (rw rest_whole at c.within.ensures), w.if-within.true, ← w.dll_bytes_legal.ensures, ← w.value-is, c.if-dll_bytes_legal.true, c.dll_bytes_legal-then-dll_bytes_legal.ensures)
+  | else-within w ↦ absurd cc
+]
 
-pub returns-then-not-dll_bytes_legal : goal.returns-then-not-dll_bytes_legal
+pub returns-else-dll_bytes_legal : goal.returns-else-dll_bytes_legal
 unfolding coded
-returns-then-not-dll_bytes_legal c =
-    simp (
-      ← (rw rest_whole at c.within.ensures),
-      c.if-not-within.false,
-      ← c.dll_bytes_legal.ensures,
-      c.if-not-dll_bytes_legal.true,
-    )
-
-pub returns : goal.returns
-unfolding coded
-returns c =
-    simp (
-      ← (rw rest_whole at c.within.ensures),
-      c.if-not-within.false,
-      ← c.dll_bytes_legal.ensures,
-      c.if-not-dll_bytes_legal.false,
-      ← c.dll_bytes_legal-2.ensures,
-    )
+returns-else-dll_bytes_legal c = elim c.if-within.branch [
+  | then-within w ↦ simp (← (rw rest_whole at c.within.ensures), w.if-within.true, ← w.dll_bytes_legal.ensures, ← w.value-is, c.if-dll_bytes_legal.false)
+  | else-within w ↦ simp (← (rw rest_whole at c.within.ensures), w.value-is, w.if-within.false)
+]

@@ -1,17 +1,11 @@
 -- `register::bytes::write` meets its contract. The loop's invariant: the registers passed stand at their places, and all else is as it was.
-use Prim.Native.Nat.{◌-◌, ◌≤◌}
+use Prim.Native.Nat.{◌-◌}
 use mathlib.Core.Path.{◌≡◌}
-use lib.ListN.{length, take, drop}
-use Rattle.layout.specs.Layout.{register_size, buffer_bytes}
+use lib.ListN.{take, drop}
+use Rattle.layout.specs.Layout.{register_size}
 use Rattle.register.specs.Word.{word_bytes}
 use Rattle.record.specs.Items.{joined, laid}
 use Rattle.register.proofs.bytes.write.Given as goal
 
 abbrev pub invariant-loop-n : goal.invariant-loop-n
-invariant-loop-n l = (1 ≤ l.n)
-    × ((l.n ≤ 35)
-    × ((length l.initial.buffer ≡ buffer_bytes)
-    × ((length l.regs ≡ 35) × ((length l.buffer ≡ buffer_bytes) × (l.buffer ≡ laid register_size (joined word_bytes (take (l.n - 1) (drop 1 l.regs))) l.initial.buffer)))))
-
-abbrev pub decreases-loop-n : goal.decreases-loop-n
-decreases-loop-n l = 35 - l.n
+invariant-loop-n l = l.buffer ≡ laid register_size (joined word_bytes (take (l.n - 1) (drop 1 l.regs))) l.initial.buffer

@@ -3,15 +3,10 @@ use Rattle.record.proofs.Bytes.{rest_whole}
 use Rattle.task.specs.bytes.{tasks_in, tasks_fit}
 use Rattle.task.proofs.list.fit.Goals as goal
 
-pub returns-then-not-all_ok : goal.returns-then-not-all_ok
+pub returns-then-all_ok : goal.returns-then-all_ok
 unfolding tasks_fit tasks_in
-returns-then-not-all_ok c = simp (← (rw rest_whole at c.all_ok.ensures), c.if-not-all_ok.true)
+returns-then-all_ok c = simp (← (rw rest_whole at c.all_ok.ensures), c.if-all_ok.true, ← (rw rest_whole at c.distinct.ensures))
 
-pub returns : goal.returns
+pub returns-else-all_ok : goal.returns-else-all_ok
 unfolding tasks_fit tasks_in
-returns c =
-    simp (
-      ← (rw rest_whole at c.all_ok.ensures),
-      c.if-not-all_ok.false,
-      ← (rw rest_whole at c.distinct.ensures),
-    )
+returns-else-all_ok c = simp (← (rw rest_whole at c.all_ok.ensures), c.if-all_ok.false)

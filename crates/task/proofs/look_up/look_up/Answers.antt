@@ -1,21 +1,23 @@
-use borrow.Author.Rules.{rules}
-use borrow.Author.Tests.{eq-eqb, ne_eqb}
-use native.Mathlib.Omega.{arith}
-use Rattle.task.proofs.look_up.Walk.{walk_begins, walk_hits, walk_goes_on, walk_ends}
+-- `task::look_up::look_up` meets its contract: the place of the first task that has the id says how many were read.
+use mathlib.Core.Path.{◌≡◌, ap, ◌∙◌}
+use lib.ListN.{length}
+use Rattle.task.specs.look_up.{look_up}
+use Rattle.std.proofs.Common.{rules, tests}
+use Rattle.std.proofs.lemmas.Iterator.{YieldsList-from_slice}
+use Rattle.std.proofs.lemmas.Iterator.Search.{position_from_yields_List}
+use Rattle.task.proofs.look_up.Walk.{has, told, look_up_by_place}
+use Rattle.task.proofs.look_up.look_up.Goals.{After-position}
 use Rattle.task.proofs.look_up.look_up.Goals as goal
 
-pub loop-read-init : goal.loop-read-init
-loop-read-init c = (omega arith, (search rules, walk_begins c.args.tasks c.args.count c.args.id))
+-- what the place says is the look-up
+by_place : (c : After-position) → told (length c.args.tasks.now) c.position.result ≡ look_up c.args.id c.args.tasks.now
+by_place c =
+    let tasks = c.args.tasks.now in
+    let at = position_from_yields_List (has c.args.id) _ _ _ c.position.ensures.ran (YieldsList-from_slice tasks (cc)) (λ x b q k. search (rules, tests)) in
+    ap (told (length tasks)) at ∙ look_up_by_place c.args.id tasks
 
-pub returns-then-task-id : goal.returns-then-task-id
-returns-then-task-id c =
-    walk_hits c.args.tasks c.args.count c.args.id c.loop-read.read (omega (arith, c.requires)) c.loop-read.invariant.1.1 (omega arith) (eq-eqb _ _ c.if-task-id.true)
+pub returns-in-Some : goal.returns-in-Some
+returns-in-Some c = rw c.in-Some.is at (by_place (goal.at.returns-in-Some c).After-position)
 
-pub loop-read-preserved : goal.loop-read-preserved
-loop-read-preserved c =
-    let on = walk_goes_on c.args.tasks c.args.count c.args.id c.loop-read.read (omega (arith, c.requires)) in
-    (omega arith, (c.loop-read.invariant.1.0, on c.loop-read.invariant.1.1 (omega arith) (ne_eqb _ _ c.if-task-id.false)))
-
-pub returns : goal.returns
-returns c =
-    walk_ends c.args.tasks c.args.count c.args.id c.loop-read.read (omega (arith, c.requires)) c.loop-read.invariant.1.1 (omega arith)
+pub returns-in-None : goal.returns-in-None
+returns-in-None c = rw c.in-None.is at (by_place (goal.at.returns-in-None c).After-position)

@@ -6,5 +6,5 @@ use Rattle.task.proofs.rules.has_id.Goals as goal
 pub returns-in-Hit : goal.returns-in-Hit
 returns-in-Hit c = sym (ap is_hit c.in-Hit.is) ∙ (ap is_hit c.look_up.ensures ∙ hit_in_use _ _)
 
-pub returns-in-Miss : goal.returns-in-Miss
-returns-in-Miss c = sym (ap is_hit c.in-Miss.is) ∙ (ap is_hit c.look_up.ensures ∙ hit_in_use _ _)
+pub returns-in_default : goal.returns-in_default
+returns-in_default c = sym (ap is_hit c.in_default.is) ∙ (ap is_hit c.look_up.ensures ∙ hit_in_use _ _)

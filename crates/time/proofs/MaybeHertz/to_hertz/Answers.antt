@@ -3,10 +3,10 @@ use borrow.Author.Tests.{eq-eqb, ne_eqb}
 use Rattle.time.specs.MaybeHertz.{found}
 use Rattle.time.proofs.MaybeHertz.to_hertz.Goals as goal
 
-pub returns-then-hertz-eq0 : goal.returns-then-hertz-eq0
+pub returns-then-self-eq0 : goal.returns-then-self-eq0
 unfolding found
-returns-then-hertz-eq0 c = simp (eq-eqb _ _ c.if-hertz-eq0.true)
+returns-then-self-eq0 c = simp (eq-eqb _ _ c.if-self-eq0.true)
 
-pub returns-else-hertz-eq0 : goal.returns-else-hertz-eq0
+pub returns-else-self-eq0 : goal.returns-else-self-eq0
 unfolding found
-returns-else-hertz-eq0 c = simp (ne_eqb _ _ c.if-hertz-eq0.false)
+returns-else-self-eq0 c = simp (ne_eqb _ _ c.if-self-eq0.false)

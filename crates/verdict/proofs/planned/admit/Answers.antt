@@ -1,14 +1,19 @@
 -- `verdict::planned::admit` meets its contract: the bytes are decoded, then judged.
-use mathlib.Core.Path.{sym, ◌∙◌}
+use mathlib.Core.Path.{sym}
+use Rattle.refusal.proofs.Exits.{handed_on}
 use Rattle.plan.proofs.bytes.RoundTrip.{read_legal}
 use Rattle.verdict.proofs.planned.Plans.{planned_unread, planned_read}
 use Rattle.verdict.proofs.planned.admit.Goals as goal
 
-pub judge-requires : goal.judge-requires
-judge-requires c = read_legal _ _ (sym c.decode.ensures ∙ c.in-Read.is)
+pub returns-in_err-plan : goal.returns-in_err-plan
+returns-in_err-plan c = rw (handed_on _ _ c.from_residual.ensures.1) (planned_unread _ _ c.in_err-plan.ensures)
 
-pub returns-in-Unread : goal.returns-in-Unread
-returns-in-Unread c = c.refused.ensures ∙ planned_unread _ _ (sym c.decode.ensures ∙ c.in-Unread.is)
+pub check_plan-requires : goal.check_plan-requires
+check_plan-requires c = read_legal _ _ (sym c.in_ok-plan.ensures)
 
-pub returns-in-Read : goal.returns-in-Read
-returns-in-Read c = c.judge.ensures ∙ planned_read _ _ (sym c.decode.ensures ∙ c.in-Read.is)
+pub returns-in_err-target : goal.returns-in_err-target
+returns-in_err-target c =
+    rw (handed_on _ _ c.from_residual-in_err-target.ensures.1) (planned_read _ _ _ c.in_ok-plan.ensures c.in_err-target.ensures)
+
+pub returns : goal.returns
+returns c = planned_read _ _ _ c.in_ok-plan.ensures c.in_ok-target.ensures

@@ -1,15 +1,11 @@
--- `verdict::planned::check` meets its contract: the bytes are decoded, then judged.
-use mathlib.Core.Path.{sym, ap, ◌∙◌}
-use Rattle.plan.proofs.bytes.RoundTrip.{read_legal}
-use Rattle.verdict.specs.Verdict.{number_of}
-use Rattle.verdict.proofs.planned.Plans.{verdict_unread, verdict_read}
+-- `verdict::planned::check` meets its contract: it is refused as `admit` refuses.
+use mathlib.Core.Path.{sym}
+use Rattle.refusal.proofs.Exits.{handed_on}
+use Rattle.verdict.proofs.planned.Plans.{refused, plans}
 use Rattle.verdict.proofs.planned.check.Goals as goal
 
-pub number-requires : goal.number-requires
-number-requires c = read_legal _ _ (sym c.decode.ensures ∙ c.in-Read.is)
+pub returns-in_err-admit : goal.returns-in_err-admit
+returns-in_err-admit c = rw (handed_on _ _ c.from_residual.ensures.1) (refused _ _ c.in_err-admit.ensures)
 
-pub returns-in-Unread : goal.returns-in-Unread
-returns-in-Unread c = sym (ap number_of (verdict_unread _ _ (sym c.decode.ensures ∙ c.in-Unread.is)))
-
-pub returns-in-Read : goal.returns-in-Read
-returns-in-Read c = c.number.ensures ∙ sym (ap number_of (verdict_read _ _ (sym c.decode.ensures ∙ c.in-Read.is)))
+pub returns : goal.returns
+returns c = sym (plans _ _ c.in_ok-admit.ensures).accepted

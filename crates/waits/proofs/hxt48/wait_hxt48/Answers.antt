@@ -2,22 +2,21 @@
 use native.Mathlib.Omega.{arith}
 use mathlib.Core.Path.{◌≡◌, ap, sym, ◌∙◌}
 use mathlib.Core.Bool.{true, false}
-use Rattle.journal.specs.declared.Machine.{Machine}
 use Rattle.journal.specs.Run.{Run, wait_hxt48}
-use Rattle.journal.specs.Machine.{machine_of}
+use Rattle.journal.specs.Machine.{State, state_of, machine_of}
 use Rattle.journal.proofs.Does.{◌then◌, does_as, takes_none, beside}
 use Rattle.waits.proofs.hxt48.wait_hxt48.Goals as goal
 
-pub returns-then-head : goal.returns-then-head
+pub returns-then-m : goal.returns-then-m
 unfolding wait_hxt48
-returns-then-head c =
-    let flag : (r : Run) → c.args.m ≡ machine_of r → r.head.hxt48_ready ≡ true =
-    λ r q. ap (λ (w : Machine). w.head.hxt48_ready) (sym q) ∙ c.if-head.true in
+returns-then-m c =
+    let flag : (r : Run) → state_of c.args.m.now ≡ machine_of r → r.head.hxt48_ready ≡ true =
+    λ r q. ap (λ (w : State). w.head.hxt48_ready) (sym q) ∙ c.if-m.true in
     does_as (λ r q. simp (flag r q)) (omega arith) (takes_none c.requires c.wait_none.ensures)
 
 pub returns : goal.returns
 unfolding wait_hxt48
 returns c =
-    let flag : (r : Run) → c.args.m ≡ machine_of r → r.head.hxt48_ready ≡ false =
-    λ r q. ap (λ (w : Machine). w.head.hxt48_ready) (sym q) ∙ c.if-head.false in
-    does_as (λ r q. simp (flag r q)) (omega arith) (c.wait_for-m.ensures then beside c.set_hxt48.ensures)
+    let flag : (r : Run) → state_of c.args.m.now ≡ machine_of r → r.head.hxt48_ready ≡ false =
+    λ r q. ap (λ (w : State). w.head.hxt48_ready) (sym q) ∙ c.if-m.false in
+    does_as (λ r q. simp (flag r q)) (omega arith) (c.wait_for.ensures then beside c.set_hxt48.ensures)

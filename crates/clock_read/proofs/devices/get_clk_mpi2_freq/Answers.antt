@@ -1,5 +1,0 @@
--- `clock_read::devices::get_clk_mpi2_freq` meets its contract.
-use Rattle.clock_read.proofs.devices.get_clk_mpi2_freq.Goals as goal
-
-pub returns : goal.returns
-returns c = simp (c.flash_freq.ensures, c.c.ensures)
