@@ -257,10 +257,13 @@ def measured(lines):
         define = DEFINE.fullmatch(line.rstrip())
         name = define[2] if define else name
         bodies[name].append(line.split(' ; ')[0].strip())
+    taken = {(name, register) for _, name, register, _ in addresses}
     for number, name, register, _ in addresses:
         uses = [line for line in bodies[name] if re.search(rf'{re.escape(register)}(?![\w.])', line) and not line.startswith(f'{register} = ')]
-        between = [re.fullmatch(rf'({REG}) = sub i64 {REG}, {REG}', line) for line in uses]
+        between = [re.fullmatch(rf'({REG}) = sub i64 ({REG}), ({REG})', line) for line in uses]
         for found in between:
+            if found and not all((name, one) in taken for one in found.group(2, 3)):
+                findings.append(f'line {number}: an address from which a number is taken, or that is taken from one')
             after = found and [line for line in bodies[name] if re.search(rf'{re.escape(found[1])}(?![\w.])', line) and not line.startswith(f'{found[1]} = ')]
             if not found or not all(re.fullmatch(rf'{REG} = icmp ult i64 {re.escape(found[1])}, {REG}', line) for line in after):
                 findings.append(f'line {number}: an address that is not taken from another')

@@ -2,7 +2,7 @@
 # chip-module.sh: writes target/module/rikkovan.ll, the module that librikkovan.a is compiled from, as text. rattle gives it
 # to its compiler and keeps it nowhere; so the library is built a second time, beside the first, with a compiler that keeps it.
 # That archive must be the first one byte for byte: the module is then the one that is proved. Two of its forms mean another thing with
-# pointers of 32 bits; chip-pairs.py replaces them. Needs a built library.
+# pointers of 32 bits; chip-pairs.py replaces them, and for x86-64 that must change no byte. Needs a built library.
 set -euo pipefail
 cd "$(dirname "$0")/.."
 
@@ -43,6 +43,16 @@ second_library() {
     [ -f "$out/module.bc" ] || fail 'the compiler was given no module'
 }
 
+# What chip-pairs.py replaces means the same with pointers of 64 bits: compiled for them, both modules are the same bytes.
+same_for_64_bits() {
+    local name
+    for name in unpaired unchecked; do
+        "$toolchain/bin/clang" --target=x86_64-unknown-linux-gnu -O2 --no-default-config -Werror -c -x ir "$out/$name.ll" -o "$out/$name.o"
+    done
+    cmp "$out/unpaired.o" "$out/unchecked.o" || fail 'chip-pairs.py changes what the module means'
+    rm "$out/unpaired.o" "$out/unchecked.o"
+}
+
 [ -f "$library" ] || fail "$library is missing"
 rm -rf "$out"
 mkdir -p "$out"
@@ -50,6 +60,7 @@ toolchain_that_keeps_the_module
 second_library
 "$toolchain/bin/clang" --target=x86_64-unknown-linux-gnu -S -emit-llvm -Xclang -disable-llvm-passes -x ir "$out/module.bc" -o "$out/unpaired.ll"
 tools/chip-pairs.py "$out/unpaired.ll" >"$out/unchecked.ll"
+same_for_64_bits
 tools/chip-layout.py "$out/unchecked.ll" || fail 'the module may depend on the size of a pointer'
 rm "$out/librikkovan.a" "$out/unpaired.ll"
 mv "$out/unchecked.ll" "$out/rikkovan.ll"

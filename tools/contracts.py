@@ -20,22 +20,24 @@ FEW, FEWEST, NAMED = 4, 2, 8
 class Item:
     """A function, a constant or an enum of the code, or a definition."""
 
-    def __init__(self, kind, file, owner, name, text, notes):
+    def __init__(self, kind, file, owner, name, text, notes, trait=None, given=None):
         self.kind, self.file, self.owner, self.name, self.text, self.notes = kind, file, owner, name, text, notes
+        # Of a method: its trait, and what the impl gives the clauses of that, which are the promise of the method.
+        self.trait, self.given, self.promise = trait, given or {}, text
         self.crate, _, *modules = file.relative_to(ROOT / "crates").with_suffix("").parts
         self.place = (self.crate, *(module for module in modules if module not in ("lib", "main")))
         self.key = (*self.place, *owner, name)
         self.uses, self.users, self.edits = [], [], []
 
     def public(self):
-        return self.kind == "fn" and self.text.lstrip().startswith("pub ")
+        return self.kind == "fn" and (self.trait is not None or self.text.lstrip().startswith("pub "))
 
     def exported(self):
         return self.kind == "fn" and self.text.startswith("pub extern ")
 
     def clauses(self, word):
         """What the contract of a function requires or ensures."""
-        head = re.split(r"\n *\{\n", self.text, maxsplit=1)[0]
+        head = re.split(r"\n *\{\n", self.promise, maxsplit=1)[0]
         return [inside(head, begins.end()) for begins in re.finditer(rf"^ *{word}(?: \w+)? \{{", head, re.M)]
 
 
@@ -68,7 +70,7 @@ def imports(text, word):
 
 def code_of(file):
     """The functions, constants and enums of a file of src/, each with the comment over it."""
-    lines, notes, owner = iter(file.read_text().split("\n")), [], ()
+    lines, notes, owner, trait, given = iter(file.read_text().split("\n")), [], (), None, {}
     for line in lines:
         begins = re.match(r'( *)(?:pub )?(?:extern "C" )?(fn|const|enum) (\w+)', line)
         if begins:
@@ -76,9 +78,14 @@ def code_of(file):
             # A method that a trait leaves to its impls ends with its last clause.
             while body[-1] != end and not (body[-1].endswith(";") and not any(part.endswith("{") for part in body)):
                 body.append(next(lines))
-            yield Item(begins[2], file, owner, begins[3], "\n".join(body), " ".join(notes))
-        if line.startswith(("impl ", "}")):
-            owner = (line.split()[1],) if line[0] == "i" else ()
+            yield Item(begins[2], file, owner, begins[3], "\n".join(body), " ".join(notes), trait, given)
+        of = re.match(r"impl(?:<.*?>)? (?:(\S+) for )?(\w+)|pub trait (\w+)", line)
+        if of or line.startswith("}"):
+            declared = of and re.sub(r"^\w+::", "", of[1] or of[3] or "")
+            owner, trait, given = ((f"{declared} for {of[2]}" if of[1] else of[2] or of[3],), declared or None, {}) if of else ((), None, {})
+        told = re.match(r" +ghost (\w+) = \{ (.*) \};", line)
+        if told:
+            given[told[1]] = told[2]
         if not line.lstrip().startswith("#["):
             notes = notes + [line.strip(" /")] if line.lstrip().startswith("//") else []
 
@@ -103,6 +110,9 @@ class Sources:
         self.texts = {file: file.read_text() for file in code + specs}
         self.code = {item.key: item for file in code for item in code_of(file)}
         self.definitions = {item.key: item for file in specs for item in definitions_of(file)}
+        for item in self.code.values():
+            if item.trait and f"{item.trait} for " in item.owner[0]:
+                item.promise = self.promised_by_the_trait(item)
         self.items = [*self.code.values(), *self.definitions.values()]
         self.passed_on = dict(pair for item in self.items for pair in self.passed_on_at(item))
         for item in self.items:
@@ -114,6 +124,13 @@ class Sources:
         for edit in self.edits:
             for item in self.changed_by(edit):
                 item.edits.append(edit)
+
+    def promised_by_the_trait(self, item):
+        """What the trait of an impl declares of its method; of the library's, what the impl gives it."""
+        for declared in self.code.values():
+            if declared.owner == (item.trait,) and declared.name == item.name:
+                return declared.text
+        return "\n".join(f"ensures {{ {given} }}" for given in item.given.values()) + "\n{\n"
 
     def passed_on_at(self, item):
         """The names that the module of an item passes on from others (`pub use`)."""
@@ -198,7 +215,9 @@ def signature(item):
 
 def contract(item):
     given = ", ".join(code(short(clause)) for clause in item.clauses("requires"))
-    return (f"where {given}: " if given else "") + "; ".join(code(short(clause)) for clause in item.clauses("ensures"))
+    promised = "; ".join(code(short(clause)) for clause in item.clauses("ensures"))
+    named = "; ".join(f"{code(name)} is {code(text)}" for name, text in item.given.items() if name in promised and text not in promised)
+    return (f"where {given}: " if given else "") + promised + (f", where {named}" if named else "")
 
 
 def sentence(sources, item):

@@ -37,11 +37,13 @@ pub fn release(buffer: &mut [u8], id: u8) -> Answer
     call::finish(&m, 0, buffer)
 }
 
-// Looks for the task of an id.
+// Looks for the task of an id. The head is read once its tests are passed: a head that `?` hands on is a copy more.
+#[tactic(auto, using(head::proofs::from_bytes::Passed::passed, head::proofs::from_bytes::Decoding::decode_encodable))]
 pub fn look_up(buffer: &[u8], id: u8) -> Answer
     ensures { Answers (look_up_call id buffer.now) result buffer.now [] }
 {
-    let head = head::from_bytes::decode(buffer)?;
+    head::from_bytes::test(buffer)?;
+    let head = head::from_bytes::read(buffer);
     Ok(Done {
         value: task::look_up::look_up(head.booked(), id).value(),
         entries: 0,

@@ -9,7 +9,7 @@ use lib.Dec.{leb}
 use lib.ListN.{length, get_or, drop}
 use lib.Seq.{drop-cons, drop-length}
 use borrow.Author.Tests.{leb-true, leb-false}
-use Rattle.std.specs.Prelude.{None, Some}
+use Rattle.std.specs.Prelude.{Option, None, Some, unwrap_or}
 use Rattle.digits.specs.Decimal.{most, is_digit, all_digits, spelled, longer, request_of, number_in}
 
 -- the request of a text that goes on after the digits of `n`
@@ -75,3 +75,16 @@ pub number_some : (s : List ℕ) (n : ℕ) → 0 < length s → all_digits s ≡
 unfolding number_in
 number_some [] n h e k = absurd (omega arith)
 number_some (b ∷ s) n h e k = rw (e, k)
+
+cut_or : (t : Bool) (x : ℕ) → unwrap_or (cond t (Some (min (cond t x 0) most)) None) 0 ≡ min (cond t x 0) most
+cut_or true x = refl
+cut_or false x = refl
+
+-- where a text spells none, its request is 0
+number_or_zero : (s : List ℕ) → unwrap_or (number_in s) 0 ≡ request_of s
+unfolding number_in request_of all_digits spelled
+number_or_zero [] = refl
+number_or_zero (b ∷ s) = cut_or (all_digits (b ∷ s)) (spelled 0 (b ∷ s))
+
+pub request_is : (s : List ℕ) (found : Option ℕ) (n : ℕ) → found ≡ number_in s → n ≡ unwrap_or found 0 → n ≡ request_of s
+request_is s found n e k = rw (k, e) (number_or_zero s)

@@ -1,6 +1,6 @@
 // A request in decimal.
 ghost use Rattle.std.specs.Prelude.{◌≡◌};
-ghost use Rattle.digits.specs.Decimal.{number_in};
+ghost use Rattle.digits.specs.Decimal.{number_in, request_of};
 
 // The number that the digits spell, or the largest where it does not fit; none where there is no
 // digit, or another byte among them.
@@ -16,4 +16,12 @@ pub fn decimal(text: &[u8]) -> Option<u32>
         number = number.saturating_mul(10).saturating_add(digit);
     }
     if text.is_empty() { None } else { Some(number) }
+}
+
+// The request of a text: the number that it spells, and 0 where it spells none.
+#[tactic(auto, using(crate::proofs::Decimal::request_is))]
+pub fn request(text: &[u8]) -> u32
+    ensures { result ≡ request_of text.now }
+{
+    decimal(text).unwrap_or(0)
 }

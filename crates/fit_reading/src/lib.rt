@@ -27,11 +27,13 @@ fn numbers(h: &Head) -> [u64; 3]
 }
 
 // Reads them from the head in a buffer, or refuses them with `fit` as it was.
+#[tactic(auto, using(head::proofs::from_bytes::Passed::passed, head::proofs::from_bytes::Decoding::decode_encodable))]
 pub fn read_fit(buffer: &[u8], fit: &mut [u64; 3]) -> Result<(), Refusal>
     ensures value { number_of result ≡ head_refusal buffer.now }
     ensures fit_after { fit.new ≡ unless_refused buffer.now (fit_of (head_of buffer.now)) fit.old }
 {
-    let head = head::from_bytes::decode(buffer)?;
+    head::from_bytes::test(buffer)?;
+    let head = head::from_bytes::read(buffer);
     *fit = numbers(&head);
     Ok(())
 }

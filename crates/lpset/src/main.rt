@@ -29,7 +29,5 @@ fn main(rt: HostRuntime) -> io::Result<()> {
     }
     let mut buffer = [0u8; 4096];
     let count = text::file::read(&rt, 1, &mut buffer).unwrap_or(0);
-    // A request that is none is refused as 0 is.
-    let request = request::read(&rt).unwrap_or(Megahertz(0));
-    set(&rt, &mut buffer[..count], request)
+    set(&rt, &mut buffer[..count], request::read(&rt))
 }

@@ -1,13 +1,26 @@
 // What `lpset` writes.
+ghost use Rattle.std.specs.Prelude.{◌≡◌};
+ghost use Rattle.digits.specs.hexadecimal.{hex_digits};
+
 use call::Answer;
+use digits::hexadecimal::digits;
 use std::io;
 use time::MaybeHertz;
 
-// How many entries there are, and a line for each: its number, and its value in six digits.
+// An entry's value in six digits, the last of its word.
+pub fn value_digits(word: u32) -> [u8; 6]
+    ensures { result ≡ hex_digits 6 word }
+{
+    digits::<6>(word)
+}
+
+// How many entries there are, and a line for each: its number, and its value.
 pub fn steps<R: Print>(rt: &R, entries: &[u32]) -> io::Result<()> {
     println!(rt; "steps {}", entries.len())?;
     for word in entries {
-        println!(rt; "{} {:06X}", *word >> 24, *word & 0xFFFFFF)?;
+        print!(rt; "{} ", *word >> 24)?;
+        rt.write_all(&value_digits(*word))?;
+        println!(rt)?;
     }
     Ok(())
 }

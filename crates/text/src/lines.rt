@@ -6,7 +6,7 @@ use std::io::Read;
 
 // How far a file has been read. The caller lends the file to each call, and the buffer in which the
 // last block lies; its bytes from `at` up to `have` are still to be taken.
-#[derive(Drop)]
+#[derive(Clone, Copy)]
 pub struct Reader {
     at: usize,
     have: usize,
