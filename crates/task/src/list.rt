@@ -14,12 +14,18 @@ pub fn all_ok(bytes: &[u8], size: usize, count: usize) -> bool
     (0..count).all(|i| crate::rules::ok(crate::bytes::task_at(bytes, size * i)))
 }
 
-// Whether one of the tasks from `from` on has the id.
+// Whether one of the tasks from `from` on has the id. This is the inner loop of each head that has tasks. By `any`, here or in `distinct`, it
+// has 17 bytes of machine code and not 14, which take half as long again where they come to lie over an edge of 32.
 fn has_id(bytes: &[u8], size: usize, from: usize, count: usize, id: u8) -> bool
     requires { (from ≤ count) × ((period_end ≤ size) × (size * count ≤ length bytes.now)) }
     ensures { result ≡ has_id id (drop from (items task_in size count bytes.now)) }
 {
-    (from..count).any(|i| bytes[size * i] == id)
+    for i in from..count {
+        if bytes[size * i] == id {
+            return true;
+        }
+    }
+    false
 }
 
 // Whether no two of the tasks have the same id.
@@ -27,7 +33,12 @@ pub fn distinct(bytes: &[u8], size: usize, count: usize) -> bool
     requires { (period_end ≤ size) × (size * count ≤ length bytes.now) }
     ensures { result ≡ distinct (items task_in size count bytes.now) }
 {
-    (0..count).all(|i| !has_id(bytes, size, i + 1, count, bytes[size * i]))
+    for i in 0..count {
+        if has_id(bytes, size, i + 1, count, bytes[size * i]) {
+            return false;
+        }
+    }
+    true
 }
 
 // Whether a record's tasks are such that neither 16 nor 40 would refuse one.

@@ -1,9 +1,9 @@
 -- What a test of the tasks in bytes goes by: the task at its place, and the rest of them.
-use Prim.Native.Nat.{ℕ, zero, suc, ◌+◌, ◌*◌, ◌<◌}
+use Prim.Native.Nat.{ℕ, zero, suc, ◌+◌, ◌*◌, ◌<◌, ◌≤◌}
 use mathlib.Core.Path.{◌≡◌, ap, sym, ◌∙◌}
-use mathlib.Core.Bool.{Bool, not, ◌&&◌, ◌||◌}
+use mathlib.Core.Bool.{Bool, true, false, not, ◌&&◌, ◌||◌}
 use native.Mathlib.Omega.{arith}
-use Rattle.std.specs.List.{list_all, list_any, range_with_len}
+use Rattle.std.specs.List.{list_all, range_with_len}
 use mathlib.Core.List.{List, [], ◌∷◌}
 use native.Mathlib.Nat.{add-zero}
 use native.Mathlib.Numerals.{add-one}
@@ -33,11 +33,11 @@ module _ (size : ℕ) (b : List ℕ) (n i : ℕ) (l : i < n) where
   unfolding all_ok
   all_step = ap all_ok rest_step
 
-  has_step : (id : ℕ) → has_id id (drop i (tasks size b n)) ≡ (eqb (get_or b (size * i) 0) id || has_id id (drop (i + 1) (tasks size b n)))
+  pub has_step : (id : ℕ) → has_id id (drop i (tasks size b n)) ≡ (eqb (get_or b (size * i) 0) id || has_id id (drop (i + 1) (tasks size b n)))
   unfolding has_id
   has_step id = ap (has_id id) rest_step ∙ rw id_at
 
-  distinct_step : distinct (drop i (tasks size b n)) ≡ (not (has_id (get_or b (size * i) 0) (drop (i + 1) (tasks size b n))) && distinct (drop (i + 1) (tasks size b n)))
+  pub distinct_step : distinct (drop i (tasks size b n)) ≡ (not (has_id (get_or b (size * i) 0) (drop (i + 1) (tasks size b n))) && distinct (drop (i + 1) (tasks size b n)))
   unfolding distinct
   distinct_step = ap distinct rest_step ∙ rw id_at
 
@@ -52,16 +52,10 @@ module _ (size : ℕ) (b : List ℕ) (n : ℕ) where
   all_by_place (suc k) i e =
       ap (λ (r : Bool). task_ok (task_in (drop (size * i) b)) && r) (all_by_place k (i + 1) (omega arith)) ∙ sym (all_step size b n i (omega arith))
 
-  pub has_by_place : (id k i : ℕ) → i + k ≡ n → list_any (λ (j : ℕ). eqb (get_or b (size * j) 0) id) (range_with_len i k) ≡ has_id id (drop i (tasks size b n))
+  pub has_none : (id i : ℕ) → n ≤ i → has_id id (drop i (tasks size b n)) ≡ false
   unfolding has_id
-  has_by_place id zero i e = sym (ap (has_id id) (none_left i e))
-  has_by_place id (suc k) i e =
-      ap (λ (r : Bool). eqb (get_or b (size * i) 0) id || r) (has_by_place id k (i + 1) (omega arith)) ∙ sym (has_step size b n i (omega arith) id)
+  has_none id i e = ap (has_id id) (drop_of_length-le (tasks size b n) {i = i} (rw items_length e))
 
-  pub distinct_by_place : (k i : ℕ) → i + k ≡ n →
-      list_all (λ (j : ℕ). not (has_id (get_or b (size * j) 0) (drop (j + 1) (tasks size b n)))) (range_with_len i k) ≡ distinct (drop i (tasks size b n))
+  pub distinct_none : (i : ℕ) → n ≤ i → distinct (drop i (tasks size b n)) ≡ true
   unfolding distinct
-  distinct_by_place zero i e = sym (ap distinct (none_left i e))
-  distinct_by_place (suc k) i e =
-      ap (λ (r : Bool). not (has_id (get_or b (size * i) 0) (drop (i + 1) (tasks size b n))) && r) (distinct_by_place k (i + 1) (omega arith))
-      ∙ sym (distinct_step size b n i (omega arith))
+  distinct_none i e = ap distinct (drop_of_length-le (tasks size b n) {i = i} (rw items_length e))

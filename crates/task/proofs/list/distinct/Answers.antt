@@ -1,21 +1,25 @@
--- `task::list::distinct` meets its contract: no task's id is that of a later one.
-use mathlib.Core.Path.{◌∙◌}
-use mathlib.Core.Bool.{not}
+use Prim.Native.Nat.{◌+◌, ◌*◌}
+use mathlib.Core.Path.{◌≡◌, sym, ◌∙◌}
+use mathlib.Core.Bool.{true, false}
 use native.Mathlib.Omega.{arith}
-use Prim.Native.Nat.{ℕ, ◌+◌, ◌*◌}
 use lib.ListN.{get_or, drop}
-use Rattle.std.proofs.Common.{rules, tests}
-use Rattle.std.proofs.lemmas.Iterator.{YieldsList-from_range}
-use Rattle.std.proofs.lemmas.Iterator.Search.{all_from_yields_List}
 use Rattle.task.specs.Task.{has_id}
-use Rattle.task.proofs.list.Rest.{tasks, distinct_by_place}
+use Rattle.task.proofs.list.Rest.{tasks, distinct_step, distinct_none}
 use Rattle.task.proofs.list.distinct.Goals as goal
 
-pub returns : goal.returns
-returns c =
-    let n = c.args.count in
-    let size = c.args.size in
+pub returns-then-has_id : goal.returns-then-has_id
+returns-then-has_id c =
     let b = c.args.bytes.now in
-    all_from_yields_List (λ (i : ℕ). not (has_id (get_or b (size * i) 0) (drop (i + 1) (tasks size b n)))) _ _ _ c.all.ensures.ran
-    (YieldsList-from_range 0 n n (cc) (omega arith)) (λ x b q k. search (rules, tests))
-    ∙ distinct_by_place size b n n 0 (omega arith)
+    let size = c.args.size in
+    let found : has_id (get_or b (size * c.loop-i.i) 0) (drop (c.loop-i.i + 1) (tasks size b c.args.count)) ≡ true = sym c.has_id.ensures ∙ c.if-has_id.true in
+    sym (sym c.loop-i.invariant ∙ (distinct_step size b c.args.count c.loop-i.i (omega arith) ∙ rw found))
+
+pub loop-i-preserved : goal.loop-i-preserved
+loop-i-preserved c =
+    let b = c.args.bytes.now in
+    let size = c.args.size in
+    let none : has_id (get_or b (size * c.loop-i.i) 0) (drop (c.loop-i.i + 1) (tasks size b c.args.count)) ≡ false = sym c.has_id.ensures ∙ c.if-has_id.false in
+    sym (rw none at (distinct_step size b c.args.count c.loop-i.i (omega arith))) ∙ c.loop-i.invariant
+
+pub returns : goal.returns
+returns c = sym (sym c.loop-i.invariant ∙ distinct_none c.args.size c.args.bytes.now c.args.count c.loop-i.i (omega arith))

@@ -1,20 +1,22 @@
--- `task::list::has_id` meets its contract: each task's first byte is its id.
-use mathlib.Core.Path.{◌∙◌}
+use mathlib.Core.Path.{sym, ◌∙◌}
+use borrow.Author.Tests.{eq-eqb, ne_eqb}
 use native.Mathlib.Omega.{arith}
-use Prim.Native.Nat.{ℕ, ◌*◌, ◌-◌}
-use lib.Dec.{eqb}
+use Prim.Native.Nat.{◌*◌}
 use lib.ListN.{get_or}
-use Rattle.std.proofs.Common.{rules, tests}
-use Rattle.std.proofs.lemmas.Iterator.{YieldsList-from_range}
-use Rattle.std.proofs.lemmas.Iterator.Search.{any_from_yields_List}
-use Rattle.task.proofs.list.Rest.{has_by_place}
+use Rattle.task.proofs.list.Rest.{has_step, has_none}
 use Rattle.task.proofs.list.has_id.Goals as goal
 
-pub returns : goal.returns
-returns c =
-    let n = c.args.count in
-    let i = c.args.from in
-    let size = c.args.size in
+pub returns-then-bytes-size : goal.returns-then-bytes-size
+returns-then-bytes-size c =
     let b = c.args.bytes.now in
-    any_from_yields_List (λ (j : ℕ). eqb (get_or b (size * j) 0) c.args.id) _ _ _ c.any.ensures.ran (YieldsList-from_range i n (n - i) (cc) (omega arith)) (λ x b q k. search (rules, tests))
-    ∙ has_by_place size b n c.args.id (n - i) i (omega arith)
+    let found = eq-eqb (get_or b (c.args.size * c.loop-i.i) 0) c.args.id c.if-bytes-size.true in
+    sym (sym c.loop-i.invariant ∙ (has_step c.args.size b c.args.count c.loop-i.i (omega arith) c.args.id ∙ rw found))
+
+pub loop-i-preserved : goal.loop-i-preserved
+loop-i-preserved c =
+    let b = c.args.bytes.now in
+    let other = ne_eqb (get_or b (c.args.size * c.loop-i.i) 0) c.args.id c.if-bytes-size.false in
+    sym (rw other at (has_step c.args.size b c.args.count c.loop-i.i (omega arith) c.args.id)) ∙ c.loop-i.invariant
+
+pub returns : goal.returns
+returns c = sym (sym c.loop-i.invariant ∙ has_none c.args.size c.args.bytes.now c.args.count c.args.id c.loop-i.i (omega arith))
