@@ -59,9 +59,11 @@ apart() { # COMMAND..
     group=''
 }
 
-# rt ci passes with must-fail edits that it cannot apply or read. Here they fail, since they try nothing.
+# rt ci passes with must-fail edits that it cannot apply or read. Here they fail, since they try nothing. What an earlier run left in out/ it
+# puts back at its end, whatever sources that was proved of, and take.sh would take it; so nothing is left there.
 rt_ci() {
     local bad
+    rm -rf crates/*/out
     apart tools/prove.sh 'rt ci' ci || return
     tally=$(tail -n 1 build/log/ci)
     [[ $tally =~ ^[0-9]+' passed, 0 failed'$ ]] || return
