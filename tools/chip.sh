@@ -14,7 +14,7 @@ flags=(--target="$target" -ffunction-sections -fdata-sections -mllvm -trap-unrea
     -mllvm -disable-machine-licm -mllvm -disable-postra-machine-licm -mllvm -sink-common-insts=false
     --no-default-config -no-canonical-prefixes -fintegrated-cc1 -fno-crash-diagnostics -Werror -x ir)
 # A call that is one function needs the fewest instructions. -O1 would keep the zeros with which
-# rattle fills each local first, and to unroll the loops would take 28,000 bytes more.
+# rattle fills each local first, and to unroll the loops would take 23,000 bytes more.
 one_function=(-O2 -fno-unroll-loops -mllvm -inline-threshold=4000)
 
 fail() {

@@ -26,7 +26,8 @@ fn numbers(h: &Head) -> [u64; 3]
     [rail, load, unfit]
 }
 
-// Reads them from the head in a buffer, or refuses them with `fit` as it was.
+// Reads them from the head in a buffer, or refuses them with `fit` as it was. The head is read once
+// its tests are passed: a head that `?` hands on is a copy more.
 #[tactic(auto, using(head::proofs::from_bytes::Passed::passed, head::proofs::from_bytes::Decoding::decode_encodable))]
 pub fn read_fit(buffer: &[u8], fit: &mut [u64; 3]) -> Result<(), Refusal>
     ensures value { number_of result ≡ head_refusal buffer.now }

@@ -15,7 +15,7 @@ pub fn all_ok(bytes: &[u8], size: usize, count: usize) -> bool
 }
 
 // Whether one of the tasks from `from` on has the id. This is the inner loop of each head that has tasks. By `any`, here or in `distinct`, it
-// has 17 bytes of machine code and not 14, which take half as long again where they come to lie over an edge of 32.
+// has 17 bytes of machine code and not 14, which take twice as long where they come to lie over an edge of 32.
 fn has_id(bytes: &[u8], size: usize, from: usize, count: usize, id: u8) -> bool
     requires { (from ≤ count) × ((period_end ≤ size) × (size * count ≤ length bytes.now)) }
     ensures { result ≡ has_id id (drop from (items task_in size count bytes.now)) }
